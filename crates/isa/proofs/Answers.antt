@@ -1,0 +1,80 @@
+-- What decode and encode answer, by what is found in the table: the laws that a caller uses. Assumes nothing.
+use mathlib.Core.Path.{_≡_, _∙_, sym, ap, refl}
+use mathlib.Core.Bool.{Bool, true, false, not, cond}
+use mathlib.Core.List.{List, [], _∷_, List·Memᴰ, List·Memᴰ·head, List·Memᴰ·tail}
+use mathlib.Core.Option.{Option, none, some}
+use Prim.Native.Nat.{ℕ, _+_, _≤_, _<_, _^_}
+use native.Mathlib.Omega.{arith}
+use lib.Dec.{eqb, ltb}
+use borrow.Author.Tests.{lt-ltb, le-ltb, eq-eqb, ne-eqb}
+use Rattle.isa.specs.Row.{matches}
+use Rattle.isa.specs.Refusals.{firstFailure}
+use Rattle.isa.specs.Table.{Feature, flag, SME, I16I64, MOP4, on, lacking, allFlags, Entry, table, described, entryOf, inRange, wordFor}
+use Rattle.isa.specs.Answers.{lookup, describedBy, describe, missing, decided, allowed, decodeOf, encodeOf}
+use Rattle.isa.specs.Claims.{AllOn}
+use Rattle.isa.specs.declared.Instruction.{Instruction}
+use Rattle.isa.specs.declared.Refusal.the-variants.{Flags, Unlisted, FeatureOff, OutOfRange}
+use Rattle.isa.specs.declared.Decoded.{Decoded}
+use Rattle.isa.specs.declared.Decoded.the-variants.{Accepted, Refused as NotDecoded}
+use Rattle.isa.specs.declared.Encoded.the-variants.{Word, Refused as NotEncoded}
+use Rattle.isa.proofs.Lines.{in-table, Word-of, described-word, Line-of, word-described}
+use Rattle.isa.proofs.Lookup.{lookup-found, lookup-some}
+
+-- ---- features
+flag-pos : (f : Feature) → 0 < flag f
+flag-pos SME = omega arith
+flag-pos I16I64 = omega arith
+flag-pos MOP4 = omega arith
+
+pub lacking-none : (flags : ℕ) (fs : List Feature) → lacking flags fs ≡ 0 → AllOn flags fs
+lacking-none flags (f ∷ fs) p g m = go (on flags f) refl p g m (lacking-none flags fs)
+  where
+    go : (b : Bool) → on flags f ≡ b → cond b 0 (flag f) + lacking flags fs ≡ 0 → (g : Feature) → List·Memᴰ g (f ∷ fs)
+        → (lacking flags fs ≡ 0 → AllOn flags fs) → on flags g ≡ true
+    go true q r g (List·Memᴰ·head e) rest = rw e q
+    go true q r g (List·Memᴰ·tail m) rest = rest (omega arith) g m
+    go false q r g m rest = absurd (omega (arith, flag-pos f))
+
+pub on-lacking : (flags : ℕ) (fs : List Feature) → AllOn flags fs → lacking flags fs ≡ 0
+on-lacking flags [] h = refl
+on-lacking flags (f ∷ fs) h =
+    rw (h f (List·Memᴰ·head refl), on-lacking flags fs (λ g m. h g (List·Memᴰ·tail m)))
+
+-- ---- decode
+pub decode-flags : (flags w : ℕ) → allFlags < flags → decodeOf flags w ≡ NotDecoded Flags
+unfolding decodeOf
+decode-flags flags w h = rw (lt-ltb allFlags flags h)
+
+pub decode-unlisted : (flags w : ℕ) → flags ≤ allFlags → lookup table w ≡ none → decodeOf flags w ≡ NotDecoded Unlisted
+unfolding decodeOf describe
+decode-unlisted flags w h p = rw (le-ltb allFlags flags h, p)
+
+pub decode-listed : (flags w : ℕ) (e : Entry) → flags ≤ allFlags → lookup table w ≡ some e → decodeOf flags w ≡ allowed (lacking flags (e .needs)) (described e w)
+unfolding decodeOf describe missing
+decode-listed flags w e h p = rw (le-ltb allFlags flags h, p) (go (eqb (lacking flags (e .needs)) 0))
+  where
+    go : (b : Bool) → decided (cond (not b) (some FeatureOff) none) (some (described e w)) ≡ cond b (Accepted (described e w)) (NotDecoded FeatureOff)
+    go true = refl
+    go false = refl
+
+-- ---- the description of a word
+pub describe-found : {e : Entry} (w : ℕ) → List·Memᴰ e table → matches (e .row) w ≡ true → describe w ≡ some (described e w)
+unfolding describe
+describe-found w m h = rw (lookup-found w m h)
+
+-- ---- encode
+pub encode-in-range : (i : Instruction) → inRange i ≡ true → encodeOf i ≡ Word (wordFor i)
+unfolding encodeOf
+encode-in-range i h = rw h
+
+pub encode-out-of-range : (i : Instruction) → inRange i ≡ false → encodeOf i ≡ NotEncoded OutOfRange
+unfolding encodeOf
+encode-out-of-range i h = rw h
+
+-- what encode gives a word for is in range, and the word is its word
+pub encoded : (i : Instruction) (w : ℕ) → encodeOf i ≡ Word w → (inRange i ≡ true) × (w ≡ wordFor i)
+encoded i w p = go (inRange i) refl
+  where
+    go : (b : Bool) → inRange i ≡ b → (inRange i ≡ true) × (w ≡ wordFor i)
+    go true h = let q = encode-in-range i h in (h, cc)
+    go false h = let q = encode-out-of-range i h in let z : _≡_ {A = ℕ} 0 1 = cc in absurd (omega arith)

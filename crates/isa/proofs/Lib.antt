@@ -1,0 +1,6 @@
+pub mod Tests
+pub mod Rows
+pub mod Lines
+pub mod Lookup
+pub mod Answers
+pub mod Theorems

@@ -1,0 +1,210 @@
+-- Demand 2 for words and descriptions: the claims of specs/Claims.antt hold for every input. Assumes nothing.
+use mathlib.Core.Path.{_≡_, _∙_, sym, ap, refl, subst}
+use mathlib.Core.Bool.{Bool, true, false}
+use mathlib.Core.Logic.{_⊎_, inl, inr}
+use mathlib.Core.List.{List, [], _∷_, List·Memᴰ}
+use mathlib.Core.Option.{Option, none, some}
+use Prim.Native.Nat.{ℕ, _≤_, _<_, _^_}
+use native.Mathlib.Omega.{arith}
+use lib.Dec.{eqb, ltb}
+use borrow.Author.Tests.{eq-eqb, ne-eqb, eqb-true, eqb-false, ltb-true, ltb-false}
+use Rattle.isa.specs.Row.{matches}
+use Rattle.isa.specs.Table.{Entry, table, allFlags, lacking, described, entryOf, inRange, wordFor}
+use Rattle.isa.specs.Answers.{lookup, describedBy, neededBy, describe, missing, decodeOf, encodeOf}
+use Rattle.isa.specs.Claims.{Listed, AllOn, FeaturesOn, Decodes, OnlyWord, Encodes, Describes, OneLine}
+use Rattle.isa.specs.declared.Instruction.{Instruction}
+use Rattle.isa.specs.declared.Refusal.{Refusal}
+use Rattle.isa.specs.declared.Refusal.the-variants.{Flags, Unlisted, FeatureOff}
+use Rattle.isa.specs.declared.Decoded.{Decoded}
+use Rattle.isa.specs.declared.Decoded.the-variants.{Accepted, Refused as NotDecoded}
+use Rattle.isa.specs.declared.Encoded.the-variants.{Word}
+use Rattle.isa.proofs.Lines.{in-table, described-word, word-described}
+use Rattle.isa.proofs.Lookup.{lookup-found, lookup-some, lookup-none}
+use Rattle.isa.proofs.Lookup.{one-line as lookup-one-line}
+use Rattle.isa.proofs.Answers.{lacking-none, on-lacking, decode-flags, decode-unlisted, decode-listed, describe-found, encode-in-range, encode-out-of-range, encoded}
+
+-- ---- what is found, in the claims' terms
+listed-found : (w : ℕ) → Listed w → (e : Entry) × (lookup table w ≡ some e)
+listed-found w l = (l .0, lookup-found w (l .1) (l .2))
+
+not-listed : (w : ℕ) → (Listed w → ⊥) → lookup table w ≡ none
+not-listed w h = go (lookup table w) refl
+  where
+    go : (o : Option Entry) → lookup table w ≡ o → lookup table w ≡ none
+    go none p = p
+    go (some e) p = let (m, q) = lookup-some table e w p in absurd (h (e, m, q))
+
+found-listed : (w : ℕ) (e : Entry) → lookup table w ≡ some e → Listed w
+found-listed w e p = let (m, q) = lookup-some table e w p in (e, m, q)
+
+features-lacking : (flags w : ℕ) (e : Entry) → lookup table w ≡ some e → FeaturesOn flags w → lacking flags (e .needs) ≡ 0
+features-lacking flags w e p h = let (m, q) = lookup-some table e w p in on-lacking flags (e .needs) (h e m q)
+
+lacking-features : (flags w : ℕ) (e : Entry) → lookup table w ≡ some e → lacking flags (e .needs) ≡ 0 → FeaturesOn flags w
+lacking-features flags w e p z x m q =
+    let f = lookup-found w m q in
+    let s : e ≡ x = cc in
+    lacking-none flags (x .needs) (rw (sym s) z)
+
+-- ---- the answer in each case
+accepted-when : (flags w : ℕ) → flags ≤ allFlags → Listed w → FeaturesOn flags w → (i : Instruction) × (decodeOf flags w ≡ Accepted i) × (describe w ≡ some i)
+unfolding listed-found
+accepted-when flags w h l f =
+    let (e, p) = listed-found w l in
+    (described e w, decode-listed flags w e h p ∙ rw (eq-eqb _ 0 (features-lacking flags w e p f)), describe-found w (l .1) (l .2))
+
+unlisted-when : (flags w : ℕ) → flags ≤ allFlags → (Listed w → ⊥) → decodeOf flags w ≡ NotDecoded Unlisted
+unlisted-when flags w h l = decode-unlisted flags w h (not-listed w l)
+
+feature-when : (flags w : ℕ) → flags ≤ allFlags → Listed w → (FeaturesOn flags w → ⊥) → decodeOf flags w ≡ NotDecoded FeatureOff
+feature-when flags w h l f =
+    let (e, p) = listed-found w l in
+    decode-listed flags w e h p ∙ rw (ne-eqb _ 0 (λ z. f (lacking-features flags w e p z)))
+
+-- the four cases, by the refusal
+data Case (flags w : ℕ) : Option Refusal → Type 0 where
+  accepts : flags ≤ allFlags → Listed w → FeaturesOn flags w → Case flags w none
+  refuses-flags : allFlags < flags → Case flags w (some Flags)
+  refuses-unlisted : flags ≤ allFlags → (Listed w → ⊥) → Case flags w (some Unlisted)
+  refuses-feature : flags ≤ allFlags → Listed w → (FeaturesOn flags w → ⊥) → Case flags w (some FeatureOff)
+
+abbrev refusal : Decoded → Option Refusal
+refusal (Accepted i) = none
+refusal (NotDecoded r) = some r
+
+module _ (flags w : ℕ) where
+  case : Case flags w (refusal (decodeOf flags w))
+  case = by-flags (ltb allFlags flags) refl
+    where
+      by-features : (e : Entry) → flags ≤ allFlags → lookup table w ≡ some e → (b : Bool) → eqb (lacking flags (e .needs)) 0 ≡ b → Case flags w (refusal (decodeOf flags w))
+      by-features e h p true q =
+          let f = lacking-features flags w e p (eqb-true _ 0 q) in
+          rw (accepted-when flags w h (found-listed w e p) f .1) (accepts h (found-listed w e p) f)
+      by-features e h p false q =
+          let f : FeaturesOn flags w → ⊥ = λ g. eqb-false _ 0 q (features-lacking flags w e p g) in
+          rw (feature-when flags w h (found-listed w e p) f) (refuses-feature h (found-listed w e p) f)
+
+      by-line : flags ≤ allFlags → (o : Option Entry) → lookup table w ≡ o → Case flags w (refusal (decodeOf flags w))
+      by-line h none p =
+          let l : Listed w → ⊥ = λ l. lookup-none w p (l .1) (l .2) in
+          rw (unlisted-when flags w h l) (refuses-unlisted h l)
+      by-line h (some e) p = by-features e h p (eqb (lacking flags (e .needs)) 0) refl
+
+      by-flags : (b : Bool) → ltb allFlags flags ≡ b → Case flags w (refusal (decodeOf flags w))
+      by-flags true p = let h = ltb-true allFlags flags p in rw (decode-flags flags w h) (refuses-flags h)
+      by-flags false p = by-line (ltb-false allFlags flags p) (lookup table w) refl
+
+  at : {r : Option Refusal} {d : Decoded} → decodeOf flags w ≡ d → refusal d ≡ r → Case flags w r
+  at p q = subst (Case flags w) (ap refusal p ∙ q) case
+
+  is-accepted : Case flags w none → (flags ≤ allFlags) × Listed w × FeaturesOn flags w
+  is-accepted (accepts h l f) = (h, l, f)
+
+  is-flags : Case flags w (some Flags) → allFlags < flags
+  is-flags (refuses-flags h) = h
+
+  is-unlisted : Case flags w (some Unlisted) → (flags ≤ allFlags) × (Listed w → ⊥)
+  is-unlisted (refuses-unlisted h l) = (h, l)
+
+  is-feature : Case flags w (some FeatureOff) → (flags ≤ allFlags) × Listed w × (FeaturesOn flags w → ⊥)
+  is-feature (refuses-feature h l f) = (h, l, f)
+
+  none-missing : missing flags w ≡ 0 → FeaturesOn flags w
+  unfolding missing
+  none-missing z e m q = lacking-none flags (e .needs) (rw (lookup-found w m q) at z)
+
+  missing-none : FeaturesOn flags w → missing flags w ≡ 0
+  unfolding missing
+  missing-none h = go (lookup table w) refl
+    where
+      go : (o : Option Entry) → lookup table w ≡ o → lacking flags (neededBy o) ≡ 0
+      go none p = refl
+      go (some e) p = features-lacking flags w e p h
+
+accepted-described : (flags w : ℕ) (i : Instruction) → decodeOf flags w ≡ Accepted i → describe w ≡ some i
+accepted-described flags w i p =
+    let (h, l, f) = is-accepted flags w (at flags w p refl) in
+    let (j, q, d) = accepted-when flags w h l f in
+    cc
+
+-- which words decode accepts, and what the others get
+pub decodes : (flags w : ℕ) → Decodes flags w
+decodes flags w =
+    record {
+      accepts = (λ a. is-accepted flags w (at flags w (a .1) refl), λ c. let (i, p, d) = accepted-when flags w (c .0) (c .1) (c .2) in (i, p));
+      accepts-described = accepted-described flags w;
+      refuses-flags = (λ p. is-flags flags w (at flags w p refl), decode-flags flags w);
+      refuses-unlisted = (λ p. is-unlisted flags w (at flags w p refl), λ c. unlisted-when flags w (c .0) (c .1));
+      refuses-feature = (λ p. is-feature flags w (at flags w p refl), λ c. feature-when flags w (c .0) (c .1) (c .2));
+      missing-none = (none-missing flags w, missing-none flags w);
+    }
+
+-- ---- descriptions and their words
+describe-word : (i : Instruction) → inRange i ≡ true → describe (wordFor i) ≡ some i
+describe-word i h =
+    let l = word-described i h in
+    describe-found (wordFor i) (in-table i) (l .hit) ∙ ap {B = Option Instruction} some (l .back)
+
+-- what describes a word is in range, and the word is its word
+described-is : (w : ℕ) (i : Instruction) → w < 2 ^ 32 → describe w ≡ some i → (inRange i ≡ true) × (wordFor i ≡ w)
+unfolding describe
+described-is w i h p = go (lookup table w) refl p
+  where
+    go : (o : Option Entry) → lookup table w ≡ o → describedBy o w ≡ some i → (inRange i ≡ true) × (wordFor i ≡ w)
+    go none q d = let z : _≡_ {A = ℕ} 0 1 = cc in absurd (omega arith)
+    go (some e) q d =
+        let (m, k) = lookup-some table e w q in
+        let o = described-word w m h k in
+        let s : described e w ≡ i = cc in
+        (rw s at (o .in-range), rw s at (o .word))
+
+-- a description in range has one word, which encode gives and decode takes back
+pub encodes : (i : Instruction) → Encodes i
+encodes i =
+    record {
+      word =
+          λ h. (
+            wordFor i,
+            encode-in-range i h,
+            record {
+              fits = word-described i h .fits;
+              is = describe-word i h;
+              only = λ v l p. sym (described-is v i l p .1);
+            },
+          );
+      back =
+          λ flags w p h f.
+          let (r, e) = encoded i w p in
+          let l = word-described i r in
+          rw e
+          (decode-listed flags (wordFor i) (entryOf i) h (lookup-found (wordFor i) (in-table i) (l .hit))
+          ∙ rw (eq-eqb _ 0 (on-lacking flags (entryOf i .needs) f), l .back));
+      refuses = encode-out-of-range i;
+    }
+
+-- a listed word is the word of one description, which is in range
+pub describes : (w : ℕ) → w < 2 ^ 32 → Listed w → (i : Instruction) × Describes w i
+describes w h l =
+    let e = l .0 in
+    let o = described-word w (l .1) h (l .2) in
+    let d = describe-found w (l .1) (l .2) in (
+      described e w,
+      record {
+        is = d;
+        in-range = o .in-range;
+        encoded = encode-in-range (described e w) (o .in-range) ∙ ap Word (o .word);
+        only =
+            λ j p.
+            let (r, q) = encoded j w p in
+            let s : describe w ≡ some j = rw q (describe-word j r) in
+            cc;
+      },
+    )
+
+-- no word matches two lines
+pub one-line : (w : ℕ) → OneLine w
+one-line = lookup-one-line
+
+-- what decode accepts is in range: the promise that callers of decode rest on
+pub accepted-in-range : (flags w : ℕ) (i : Instruction) → w < 2 ^ 32 → decodeOf flags w ≡ Accepted i → inRange i ≡ true
+accepted-in-range flags w i h p = described-is w i h (accepted-described flags w i p) .0

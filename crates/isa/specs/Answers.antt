@@ -1,0 +1,66 @@
+-- What decode and encode answer, by the table (document 01, "Encodings" and "Refusal numbers").
+use mathlib.Core.Bool.{Bool, true, false, not, cond}
+use mathlib.Core.List.{List, [], _∷_}
+use mathlib.Core.Option.{Option, none, some}
+use Prim.Native.Nat.{ℕ}
+use lib.Dec.{eqb, ltb}
+use Rattle.isa.specs.Row.{matches}
+use Rattle.isa.specs.Refusals.{Test, firstFailure}
+use Rattle.isa.specs.Table.{Feature, Entry, table, allFlags, lacking, described, inRange, wordFor}
+use Rattle.isa.specs.declared.Instruction.{Instruction}
+use Rattle.isa.specs.declared.Refusal.{Refusal}
+use Rattle.isa.specs.declared.Refusal.the-variants.{Flags, Unlisted, FeatureOff, OutOfRange}
+use Rattle.isa.specs.declared.Decoded.{Decoded}
+use Rattle.isa.specs.declared.Decoded.the-variants.{Accepted, Refused as NotDecoded}
+use Rattle.isa.specs.declared.Encoded.{Encoded}
+use Rattle.isa.specs.declared.Encoded.the-variants.{Word, Refused as NotEncoded}
+
+-- ---- a word's line of the table: the first that it matches, and there is never a second
+abbrev pub lookup : List Entry → ℕ → Option Entry
+lookup [] w = none
+lookup (e ∷ es) w = cond (matches (e .row) w) (some e) (lookup es w)
+
+abbrev pub describedBy : Option Entry → ℕ → Option Instruction
+describedBy none w = none
+describedBy (some e) w = some (described e w)
+
+abbrev pub neededBy : Option Entry → List Feature
+neededBy none = []
+neededBy (some e) = e .needs
+
+-- the description of a word; none where the table does not list it
+unfoldable pub describe : ℕ → Option Instruction
+describe w = describedBy (lookup table w) w
+
+-- the sum of the features that a word needs and flags lack; 0 where the table does not list it
+unfoldable pub missing : ℕ → ℕ → ℕ
+missing flags w = lacking flags (neededBy (lookup table w))
+
+-- ---- decode: tests 1, 7, 8
+abbrev pub absent : Option Instruction → Bool
+absent none = true
+absent (some i) = false
+
+abbrev pub decodeTests : ℕ → ℕ → List Test
+decodeTests flags w =
+    record { fails = ltb allFlags flags; gives = Flags }
+    ∷ record { fails = absent (describe w); gives = Unlisted }
+    ∷ record { fails = not (eqb (missing flags w) 0); gives = FeatureOff }
+    ∷ []
+
+-- a refusal, or the description; the last line is there for form, as a word with no description fails its test
+abbrev pub decided : Option Refusal → Option Instruction → Decoded
+decided (some r) d = NotDecoded r
+decided none (some i) = Accepted i
+decided none none = NotDecoded Unlisted
+
+-- what the last test leaves of a listed word
+abbrev pub allowed : ℕ → Instruction → Decoded
+allowed lacks i = cond (eqb lacks 0) (Accepted i) (NotDecoded FeatureOff)
+
+unfoldable pub decodeOf : ℕ → ℕ → Decoded
+decodeOf flags w = decided (firstFailure (decodeTests flags w)) (describe w)
+
+-- ---- encode: test 11
+unfoldable pub encodeOf : Instruction → Encoded
+encodeOf i = cond (inRange i) (Word (wordFor i)) (NotEncoded OutOfRange)

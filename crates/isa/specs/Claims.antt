@@ -1,0 +1,63 @@
+-- What demand 2 asks of words and descriptions, as statements; proofs/Theorems.antt proves each for every input.
+use mathlib.Core.Path.{_≡_}
+use mathlib.Core.Bool.{Bool, true, false, cond}
+use mathlib.Core.Logic.{_↔_}
+use mathlib.Core.List.{List, [], _∷_, List·Memᴰ}
+use mathlib.Core.Option.{some}
+use Prim.Native.Nat.{ℕ, _≤_, _<_, _^_}
+use lib.ListN.{length}
+use Rattle.isa.specs.Row.{matches}
+use Rattle.isa.specs.Table.{Feature, Entry, table, allFlags, on, entryOf, inRange}
+use Rattle.isa.specs.Answers.{describe, missing, decodeOf, encodeOf}
+use Rattle.isa.specs.declared.Instruction.{Instruction}
+use Rattle.isa.specs.declared.Refusal.the-variants.{Flags, Unlisted, FeatureOff, OutOfRange}
+use Rattle.isa.specs.declared.Decoded.the-variants.{Accepted, Refused as NotDecoded}
+use Rattle.isa.specs.declared.Encoded.the-variants.{Word, Refused as NotEncoded}
+
+-- a word matches some line of the table
+abbrev pub Listed : ℕ → Type 0
+Listed w = (e : Entry) × List·Memᴰ e table × (matches (e .row) w ≡ true)
+
+-- every feature of a list is on
+abbrev pub AllOn : ℕ → List Feature → Type 0
+AllOn flags fs = (f : Feature) → List·Memᴰ f fs → on flags f ≡ true
+
+-- every feature that a word's line needs is on
+abbrev pub FeaturesOn : ℕ → ℕ → Type 0
+FeaturesOn flags w = (e : Entry) → List·Memᴰ e table → matches (e .row) w ≡ true → AllOn flags (e .needs)
+
+-- which words decode accepts, and which refusal the others get
+pub record Decodes (flags w : ℕ) : Type 0 where
+  pub accepts : ((i : Instruction) × (decodeOf flags w ≡ Accepted i)) ↔ (flags ≤ allFlags) × Listed w × FeaturesOn flags w
+  pub accepts-described : (i : Instruction) → decodeOf flags w ≡ Accepted i → describe w ≡ some i
+  pub refuses-flags : (decodeOf flags w ≡ NotDecoded Flags) ↔ (allFlags < flags)
+  pub refuses-unlisted : (decodeOf flags w ≡ NotDecoded Unlisted) ↔ (flags ≤ allFlags) × (Listed w → ⊥)
+  pub refuses-feature : (decodeOf flags w ≡ NotDecoded FeatureOff) ↔ (flags ≤ allFlags) × Listed w × (FeaturesOn flags w → ⊥)
+  pub missing-none : (missing flags w ≡ 0) ↔ FeaturesOn flags w
+
+-- w is the only word that is i
+pub record OnlyWord (i : Instruction) (w : ℕ) : Type 0 where
+  pub fits : w < 2 ^ 32
+  pub is : describe w ≡ some i
+  pub only : (v : ℕ) → v < 2 ^ 32 → describe v ≡ some i → v ≡ w
+
+-- a description in range has one word, which encode gives and decode takes back; any other gets OutOfRange
+pub record Encodes (i : Instruction) : Type 0 where
+  pub word : inRange i ≡ true → (w : ℕ) × (encodeOf i ≡ Word w) × OnlyWord i w
+  pub back : (flags w : ℕ) → encodeOf i ≡ Word w → flags ≤ allFlags → AllOn flags (entryOf i .needs) → decodeOf flags w ≡ Accepted i
+  pub refuses : inRange i ≡ false → encodeOf i ≡ NotEncoded OutOfRange
+
+-- a listed word is the word of one description, which is in range
+pub record Describes (w : ℕ) (i : Instruction) : Type 0 where
+  pub is : describe w ≡ some i
+  pub in-range : inRange i ≡ true
+  pub encoded : encodeOf i ≡ Word w
+  pub only : (j : Instruction) → encodeOf j ≡ Word w → j ≡ i
+
+-- the lines of a table that a word matches
+abbrev pub linesOf : List Entry → ℕ → List Entry
+linesOf [] w = []
+linesOf (e ∷ es) w = cond (matches (e .row) w) (e ∷ linesOf es w) (linesOf es w)
+
+abbrev pub OneLine : ℕ → Type 0
+OneLine w = length (linesOf table w) ≤ 1

@@ -1,0 +1,5 @@
+pub mod Row
+pub mod Refusals
+pub mod Table
+pub mod Answers
+pub mod Claims

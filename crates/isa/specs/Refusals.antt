@@ -1,0 +1,31 @@
+-- Refusals: their numbers, and the order of tests (document 01, "Refusal numbers").
+use mathlib.Core.Bool.{Bool, cond}
+use mathlib.Core.List.{List, [], _∷_}
+use mathlib.Core.Option.{Option, none, some}
+use Prim.Native.Nat.{ℕ}
+use Rattle.isa.specs.declared.Refusal.{Refusal}
+use Rattle.isa.specs.declared.Refusal.the-variants.{Flags, VectorLength, ZLength, PLength, ZaLength, ListLength, Unlisted, FeatureOff, StreamingOff, ZaOff, OutOfRange, Room}
+
+abbrev pub number : Refusal → ℕ
+number Flags = 1
+number VectorLength = 2
+number ZLength = 3
+number PLength = 4
+number ZaLength = 5
+number ListLength = 6
+number Unlisted = 7
+number FeatureOff = 8
+number StreamingOff = 9
+number ZaOff = 10
+number OutOfRange = 11
+number Room = 12
+
+-- a test that input may fail, and the refusal that it then gets
+pub record Test : Type 0 where
+  pub fails : Bool
+  pub gives : Refusal
+
+-- tests are made in turn, and the first that fails decides
+abbrev pub firstFailure : List Test → Option Refusal
+firstFailure [] = none
+firstFailure (t ∷ ts) = cond (t .fails) (some (t .gives)) (firstFailure ts)

@@ -1,0 +1,171 @@
+// The word of a description: its fields at their places in the row.
+ghost use mathlib.Core.Path.{_≡_};
+ghost use mathlib.Core.Bool.{true};
+ghost use Prim.Native.Nat.{_+_, _-_, _*_, _/_, _<_, _≤_};
+ghost use Rattle.isa.specs.Table.{bit, tilesOf, isPair, register, inRange, wordFor};
+ghost use Rattle.isa.specs.Answers.{encodeOf};
+use crate::Encoded;
+use crate::Instruction;
+use crate::Operation;
+use crate::Predicate;
+use crate::Refusal;
+use crate::Source;
+use crate::Tile;
+use crate::Vector;
+
+// The one word of a description that is in range.
+pub fn encode(i: Instruction) -> Encoded
+    ensures { λ r. ⌜ r ≡ encodeOf i ⌝ }
+{
+    match i {
+        Instruction::Predicated {
+            op,
+            tile,
+            pn,
+            pm,
+            zn,
+            zm,
+        } => encode_predicated(op, tile, pn, pm, zn, zm),
+        Instruction::Quarter {
+            op,
+            tile,
+            first,
+            second,
+        } => encode_quarter(op, tile, first, second),
+        Instruction::Zero(mask) => Encoded::Word(0xc008_0000 + mask as u32),
+    }
+}
+
+fn encode_predicated(
+    op: Operation,
+    tile: Tile,
+    pn: Predicate,
+    pm: Predicate,
+    zn: Vector,
+    zm: Vector,
+) -> Encoded
+    ensures { λ r. ⌜ r ≡ encodeOf (Instruction.Predicated op tile pn pm zn zm) ⌝ }
+{
+    if predicated_in_range(op, tile, pn, pm, zn, zm) {
+        return Encoded::Word(predicated_word(op, tile, pn, pm, zn, zm));
+    }
+    Encoded::Refused(Refusal::OutOfRange)
+}
+
+fn encode_quarter(op: Operation, tile: Tile, first: Source, second: Source) -> Encoded
+    ensures { λ r. ⌜ r ≡ encodeOf (Instruction.Quarter op tile first second) ⌝ }
+{
+    if quarter_in_range(op, tile, first, second) {
+        return Encoded::Word(quarter_word(op, tile, first, second));
+    }
+    Encoded::Refused(Refusal::OutOfRange)
+}
+
+// The word: the row's fixed bits and the bits of the fields, each at its place.
+
+fn predicated_word(
+    op: Operation,
+    tile: Tile,
+    pn: Predicate,
+    pm: Predicate,
+    zn: Vector,
+    zm: Vector,
+) -> u32
+    requires { ⌜ inRange (Instruction.Predicated op tile pn pm zn zm) ≡ true ⌝ }
+    ensures { λ r. ⌜ r ≡ wordFor (Instruction.Predicated op tile pn pm zn zm) ⌝ }
+{
+    let fields = operation_bits(op, tile) + predicated_bits(pn, pm, zn, zm);
+    let wide = op.wide;
+    if wide {
+        0xa0c0_0000 + fields
+    } else {
+        0xa080_0000 + fields
+    }
+}
+
+fn quarter_word(op: Operation, tile: Tile, first: Source, second: Source) -> u32
+    requires { ⌜ inRange (Instruction.Quarter op tile first second) ≡ true ⌝ }
+    ensures { λ r. ⌜ r ≡ wordFor (Instruction.Quarter op tile first second) ⌝ }
+{
+    let fields = operation_bits(op, tile) + quarter_bits(first, second);
+    let wide = op.wide;
+    if wide {
+        0xa0c0_0008 + fields
+    } else {
+        0x8000_8000 + fields
+    }
+}
+
+fn operation_bits(op: Operation, tile: Tile) -> u32
+    requires { ⌜ tile .0 < 8 ⌝ }
+    ensures { λ r. ⌜ r ≡ bit (op .u0) * 0x1000000 + bit (op .u1) * 0x200000 + bit (op .subtract) * 0x10 + tile .0 ⌝ }
+{
+    (op.u0 as u32) * 0x0100_0000
+        + (op.u1 as u32) * 0x0020_0000
+        + (op.subtract as u32) * 0x10
+        + tile.0
+}
+
+fn predicated_bits(pn: Predicate, pm: Predicate, zn: Vector, zm: Vector) -> u32
+    requires { ⌜ (pn .0 < 8) × (pm .0 < 8) × (zn .0 < 32) × (zm .0 < 32) ⌝ }
+    ensures { λ r. ⌜ r ≡ zm .0 * 0x10000 + pm .0 * 0x2000 + pn .0 * 0x400 + zn .0 * 0x20 ⌝ }
+{
+    zm.0 * 0x0001_0000 + pm.0 * 0x2000 + pn.0 * 0x400 + zn.0 * 0x20
+}
+
+fn quarter_bits(first: Source, second: Source) -> u32
+    requires { ⌜ (register first < 16) × (16 ≤ register second) × (register second < 32) ⌝ }
+    ensures { λ r. ⌜ r ≡ bit (isPair second) * 0x100000 + (register second - 16) / 2 * 0x20000 + bit (isPair first) * 0x200 + register first / 2 * 0x40 ⌝ }
+{
+    (is_pair(second) as u32) * 0x0010_0000
+        + (register_of(second) - 16) / 2 * 0x0002_0000
+        + (is_pair(first) as u32) * 0x200
+        + register_of(first) / 2 * 0x40
+}
+
+// Which descriptions are in range.
+
+fn predicated_in_range(
+    op: Operation,
+    tile: Tile,
+    pn: Predicate,
+    pm: Predicate,
+    zn: Vector,
+    zm: Vector,
+) -> bool
+    ensures { λ r. ⌜ r ≡ inRange (Instruction.Predicated op tile pn pm zn zm) ⌝ }
+{
+    (tile.0 < tiles(op.wide)) & (pn.0 < 8) & (pm.0 < 8) & (zn.0 < 32) & (zm.0 < 32)
+}
+
+fn quarter_in_range(op: Operation, tile: Tile, first: Source, second: Source) -> bool
+    ensures { λ r. ⌜ r ≡ inRange (Instruction.Quarter op tile first second) ⌝ }
+{
+    let n = register_of(first);
+    let m = register_of(second);
+    (tile.0 < tiles(op.wide)) & (n % 2 == 0) & (n <= 14) & (m % 2 == 0) & (16 <= m) & (m <= 30)
+}
+
+fn tiles(wide: bool) -> u32
+    ensures { λ r. ⌜ r ≡ tilesOf wide ⌝ }
+{
+    if wide { 8 } else { 4 }
+}
+
+fn is_pair(s: Source) -> bool
+    ensures { λ r. ⌜ r ≡ isPair s ⌝ }
+{
+    match s {
+        Source::One(_) => false,
+        Source::Pair(_) => true,
+    }
+}
+
+fn register_of(s: Source) -> u32
+    ensures { λ r. ⌜ r ≡ register s ⌝ }
+{
+    match s {
+        Source::One(v) => v.0,
+        Source::Pair(v) => v.0,
+    }
+}
