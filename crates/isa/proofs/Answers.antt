@@ -1,24 +1,21 @@
 -- What decode and encode answer, by what is found in the table: the laws that a caller uses. Assumes nothing.
-use mathlib.Core.Path.{_≡_, _∙_, sym, ap, refl}
+use mathlib.Core.Path.{_≡_, refl}
 use mathlib.Core.Bool.{Bool, true, false, not, cond}
 use mathlib.Core.List.{List, [], _∷_, List·Memᴰ, List·Memᴰ·head, List·Memᴰ·tail}
-use mathlib.Core.Option.{Option, none, some}
-use Prim.Native.Nat.{ℕ, _+_, _≤_, _<_, _^_}
+use mathlib.Core.Option.{none, some}
+use Prim.Native.Nat.{ℕ, _+_, _≤_, _<_}
 use native.Mathlib.Omega.{arith}
-use lib.Dec.{eqb, ltb}
-use borrow.Author.Tests.{lt-ltb, le-ltb, eq-eqb, ne-eqb}
+use lib.Dec.{eqb}
+use borrow.Author.Tests.{lt-ltb, le-ltb}
 use Rattle.isa.specs.Row.{matches}
-use Rattle.isa.specs.Refusals.{firstFailure}
-use Rattle.isa.specs.Table.{Feature, flag, SME, I16I64, MOP4, on, lacking, allFlags, Entry, table, described, entryOf, inRange, wordFor}
-use Rattle.isa.specs.Answers.{lookup, describedBy, describe, missing, decided, allowed, decodeOf, encodeOf}
+use Rattle.isa.specs.Table.{Feature, flag, SME, I16I64, MOP4, on, lacking, allFlags, Entry, table, described, inRange, wordFor}
+use Rattle.isa.specs.Answers.{lookup, describe, missing, decided, allowed, decodeOf, encodeOf}
 use Rattle.isa.specs.Claims.{AllOn}
 use Rattle.isa.specs.declared.Instruction.{Instruction}
 use Rattle.isa.specs.declared.Refusal.the-variants.{Flags, Unlisted, FeatureOff, OutOfRange}
-use Rattle.isa.specs.declared.Decoded.{Decoded}
 use Rattle.isa.specs.declared.Decoded.the-variants.{Accepted, Refused as NotDecoded}
 use Rattle.isa.specs.declared.Encoded.the-variants.{Word, Refused as NotEncoded}
-use Rattle.isa.proofs.Lines.{in-table, Word-of, described-word, Line-of, word-described}
-use Rattle.isa.proofs.Lookup.{lookup-found, lookup-some}
+use Rattle.isa.proofs.Lookup.{lookup-found}
 
 -- ---- features
 flag-pos : (f : Feature) → 0 < flag f

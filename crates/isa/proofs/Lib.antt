@@ -4,3 +4,4 @@ pub mod Lines
 pub mod Lookup
 pub mod Answers
 pub mod Theorems
+pub mod Examples

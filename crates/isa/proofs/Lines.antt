@@ -1,14 +1,14 @@
 -- What the table's lines have in common: each row is sound and has 32 bits, values that fit a row make a description
 -- that is in range and has those values, and a description in range fits its row. Assumes nothing.
-use mathlib.Core.Path.{_≡_, _∙_, sym, ap, refl}
-use mathlib.Core.Bool.{Bool, true, false, cond, _&&_}
+use mathlib.Core.Path.{_≡_, _∙_, ap, refl}
+use mathlib.Core.Bool.{Bool, true, false}
 use mathlib.Core.List.{List, [], _∷_, List·Memᴰ, List·Memᴰ·head, List·Memᴰ·tail}
 use Prim.Native.Nat.{ℕ, zero, suc, _+_, _-_, _*_, _/_, _%_, _^_, _<_, _≤_}
 use native.Mathlib.Omega.{arith}
 use lib.Dec.{eqb, ltb, leb}
 use borrow.Author.Tests.{eq-eqb, eqb-true, ltb-true, leb-true, lt-ltb, le-leb}
-use Rattle.isa.specs.Row.{u0, u1, S, ZAda, Zn, Zm, Pn, Pm, N, M, mask, Row, Fields, size, every, wordOf, fieldOf, matches}
-use Rattle.isa.specs.Table.{predicated32, predicated64, quarter32, quarter64, one?, bit, source, isPair, register, Entry, predicated, quarter, zeroing, table, described, entryOf, fieldsFrom, wordFor, tilesOf, ranges, inRange}
+use Rattle.isa.specs.Row.{u0, u1, S, ZAda, Zn, Zm, N, M, mask, Fields, size, every, wordOf, fieldOf, matches}
+use Rattle.isa.specs.Table.{predicatedFrom, quarterFrom, predicated64, quarter64, one?, bit, source, isPair, register, Entry, predicated, quarter, table, described, entryOf, fieldsFrom, wordFor, tilesOf, ranges, inRange}
 use Rattle.isa.specs.declared.Tile.{Tile}
 use Rattle.isa.specs.declared.Predicate.{Predicate}
 use Rattle.isa.specs.declared.Vector.{Vector}
@@ -188,34 +188,22 @@ quarter-range op tile first second h =
     let p = every-all (ranges i) h in
     (quarter-fit (fieldsFrom i) (op .wide) (range-fit i h) .0, omega (arith, leb-true), omega (arith, leb-true), omega (arith, leb-true))
 
+-- a line makes the same description of fields that agree
+predicated-make : (wide : Bool) (f g : Fields) → Agree predicated64 f g → predicatedFrom wide f ≡ predicatedFrom wide g
+predicated-make wide f g a = cc
+
+quarter-make : (wide : Bool) (f g : Fields) → Agree quarter64 f g → quarterFrom wide f ≡ quarterFrom wide g
+quarter-make wide f g a = cc
+
 pub make-back : (i : Instruction) (f : Fields) → inRange i ≡ true → Agree (entryOf i .row) f (fieldsFrom i) → entryOf i .make f ≡ i
 make-back (Predicated op tile pn pm zn zm) f h a =
-    let e = predicated-agree f (fieldsFrom (Predicated op tile pn pm zn zm)) (op .wide) a in
-    rw (
-      e .0,
-      e .1 .0,
-      e .1 .1 .0,
-      e .1 .1 .1 .0,
-      e .1 .1 .1 .1 .0,
-      e .1 .1 .1 .1 .1 .0,
-      e .1 .1 .1 .1 .1 .1 .0,
-      e .1 .1 .1 .1 .1 .1 .1 .0,
-      one-bit (op .u0),
-      one-bit (op .u1),
-      one-bit (op .subtract),
-    )
+    let g = fieldsFrom (Predicated op tile pn pm zn zm) in
+    predicated-make (op .wide) f g (predicated-agree f g (op .wide) a) ∙ rw (one-bit (op .u0), one-bit (op .u1), one-bit (op .subtract))
 make-back (Quarter op tile first second) f h a =
-    let e = quarter-agree f (fieldsFrom (Quarter op tile first second)) (op .wide) a in
+    let g = fieldsFrom (Quarter op tile first second) in
     let p = every-all (ranges (Quarter op tile first second)) h in
-    rw (
-      e .0,
-      e .1 .0,
-      e .1 .1 .0,
-      e .1 .1 .1 .0,
-      e .1 .1 .1 .1 .0,
-      e .1 .1 .1 .1 .1 .0,
-      e .1 .1 .1 .1 .1 .1 .0,
-      e .1 .1 .1 .1 .1 .1 .1 .0,
+    quarter-make (op .wide) f g (quarter-agree f g (op .wide) a)
+    ∙ rw (
       one-bit (op .u0),
       one-bit (op .u1),
       one-bit (op .subtract),

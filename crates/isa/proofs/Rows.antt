@@ -5,15 +5,15 @@ use mathlib.Core.Bool.{Bool, true, false, not, cond, _&&_, _||_}
 use mathlib.Core.Logic.{_⊎_, inl, inr, ⊎-elim}
 use mathlib.Core.List.{List, [], _∷_}
 use mathlib.Core.Option.{Option, none, some}
-use Prim.Native.Nat.{ℕ, zero, suc, _+_, _-_, _*_, _/_, _%_, _^_, _<_, _≤_}
-use native.Mathlib.Nat.{mod-mod, mod-one, div-one, mod-lt, mod-eq-of-lt, add-comm}
+use Prim.Native.Nat.{ℕ, zero, suc, _+_, _-_, _*_, _/_, _%_, _^_, _<_}
+use native.Mathlib.Nat.{mod-mod, mod-one, div-one, mod-lt, mod-eq-of-lt}
 use native.Mathlib.Omega.{arith}
 use lib.Dec.{eqb, ltb, leb}
 use borrow.Author.Tests.{eq-eqb, eqb-true, eqb-false, ltb-true, leb-true, not-true}
 use lib.Arith.{digits-lt}
 use lib.Pow.{pow-pos, pow-add, high, low, mod-mod-pow, mod-pow-add, shr-shr}
 use lib.Pow.{field as field-either-way}
-use Rattle.isa.specs.Row.{Name, index, same, Segment, fixed, field, Row, Fields, size, bits, wordOf, fieldOf, every, tests, matches}
+use Rattle.isa.specs.Row.{Name, index, same, fixed, field, Row, Fields, size, bits, wordOf, fieldOf, every, tests, matches}
 use Rattle.isa.proofs.Tests.{All, every-all, all-every}
 
 -- ---- what is asked of a row and of values for its fields

@@ -1,17 +1,14 @@
 -- Demand 2 for words and descriptions: the claims of specs/Claims.antt hold for every input. Assumes nothing.
 use mathlib.Core.Path.{_≡_, _∙_, sym, ap, refl, subst}
 use mathlib.Core.Bool.{Bool, true, false}
-use mathlib.Core.Logic.{_⊎_, inl, inr}
-use mathlib.Core.List.{List, [], _∷_, List·Memᴰ}
 use mathlib.Core.Option.{Option, none, some}
 use Prim.Native.Nat.{ℕ, _≤_, _<_, _^_}
 use native.Mathlib.Omega.{arith}
 use lib.Dec.{eqb, ltb}
 use borrow.Author.Tests.{eq-eqb, ne-eqb, eqb-true, eqb-false, ltb-true, ltb-false}
-use Rattle.isa.specs.Row.{matches}
 use Rattle.isa.specs.Table.{Entry, table, allFlags, lacking, described, entryOf, inRange, wordFor}
-use Rattle.isa.specs.Answers.{lookup, describedBy, neededBy, describe, missing, decodeOf, encodeOf}
-use Rattle.isa.specs.Claims.{Listed, AllOn, FeaturesOn, Decodes, OnlyWord, Encodes, Describes, OneLine}
+use Rattle.isa.specs.Answers.{lookup, describedBy, neededBy, describe, missing, decodeOf}
+use Rattle.isa.specs.Claims.{Listed, FeaturesOn, Decodes, Encodes, Describes, OneLine}
 use Rattle.isa.specs.declared.Instruction.{Instruction}
 use Rattle.isa.specs.declared.Refusal.{Refusal}
 use Rattle.isa.specs.declared.Refusal.the-variants.{Flags, Unlisted, FeatureOff}

@@ -3,3 +3,4 @@ pub mod Refusals
 pub mod Table
 pub mod Answers
 pub mod Claims
+pub mod Examples

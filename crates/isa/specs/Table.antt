@@ -4,9 +4,6 @@ use mathlib.Core.List.{List, [], _∷_}
 use Prim.Native.Nat.{ℕ, _+_, _-_, _*_, _/_, _%_}
 use lib.Dec.{eqb, ltb, leb}
 use Rattle.isa.specs.Row.{Name, same, u0, u1, S, ZAda, Zn, Zm, Pn, Pm, N, M, mask, fixed, field, Row, Fields, wordOf, fieldOf, every}
-use Rattle.isa.specs.declared.Tile.{Tile}
-use Rattle.isa.specs.declared.Vector.{Vector}
-use Rattle.isa.specs.declared.Predicate.{Predicate}
 use Rattle.isa.specs.declared.Operation.{Operation}
 use Rattle.isa.specs.declared.Source.{Source}
 use Rattle.isa.specs.declared.Source.the-variants.{One, Pair}

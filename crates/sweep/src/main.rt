@@ -1,6 +1,5 @@
 // Decodes all 2^32 words with every feature on: how many each family accepts, and how many descriptions encode to
 // another word than the one that they came from.
-ghost use mathlib.Core.Path.{_≡_};
 ghost use Prim.Native.Nat.{ℕ, _+_, _≤_};
 ghost use Rattle.sweep.specs.Tally.{Below};
 use isa::Decoded;
