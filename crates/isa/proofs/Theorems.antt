@@ -7,12 +7,10 @@ use native.Mathlib.Omega.{arith}
 use lib.Dec.{eqb, ltb}
 use borrow.Author.Tests.{eq-eqb, ne-eqb, eqb-true, eqb-false, ltb-true, ltb-false}
 use Rattle.isa.specs.Table.{Entry, table, allFlags, lacking, described, entryOf, inRange, wordFor}
-use Rattle.isa.specs.Answers.{lookup, describedBy, neededBy, describe, missing, decodeOf}
+use Rattle.isa.specs.Answers.{lookup, describedBy, neededBy, describe, missing, decodeOf, decodedNumber, encodeOf, encodedNumber}
 use Rattle.isa.specs.Claims.{Listed, FeaturesOn, Decodes, Encodes, Describes, OneLine}
 use Rattle.isa.specs.declared.Instruction.{Instruction}
-use Rattle.isa.specs.declared.Refusal.{Refusal}
-use Rattle.isa.specs.declared.Refusal.the-variants.{Flags, Unlisted, FeatureOff}
-use Rattle.isa.specs.declared.Decoded.{Decoded}
+use Rattle.isa.specs.declared.Refusal.the-variants.{Unlisted, FeatureOff}
 use Rattle.isa.specs.declared.Decoded.the-variants.{Accepted, Refused as NotDecoded}
 use Rattle.isa.specs.declared.Encoded.the-variants.{Word}
 use Rattle.isa.proofs.Lines.{in-table, described-word, word-described}
@@ -58,53 +56,52 @@ feature-when flags w h l f =
     let (e, p) = listed-found w l in
     decode-listed flags w e h p ∙ rw (ne-eqb _ 0 (λ z. f (lacking-features flags w e p z)))
 
--- the four cases, by the refusal
-data Case (flags w : ℕ) : Option Refusal → Type 0 where
-  accepts : flags ≤ allFlags → Listed w → FeaturesOn flags w → Case flags w none
-  refuses-flags : allFlags < flags → Case flags w (some Flags)
-  refuses-unlisted : flags ≤ allFlags → (Listed w → ⊥) → Case flags w (some Unlisted)
-  refuses-feature : flags ≤ allFlags → Listed w → (FeaturesOn flags w → ⊥) → Case flags w (some FeatureOff)
-
-abbrev refusal : Decoded → Option Refusal
-refusal (Accepted i) = none
-refusal (NotDecoded r) = some r
+-- the four cases, by the number that decode gives
+data Case (flags w : ℕ) : ℕ → Type 0 where
+  accepts : flags ≤ allFlags → Listed w → FeaturesOn flags w → Case flags w 0
+  gives-1 : allFlags < flags → Case flags w 1
+  gives-7 : flags ≤ allFlags → (Listed w → ⊥) → Case flags w 7
+  gives-8 : flags ≤ allFlags → Listed w → (FeaturesOn flags w → ⊥) → Case flags w 8
 
 module _ (flags w : ℕ) where
-  case : Case flags w (refusal (decodeOf flags w))
+  abbrev given : ℕ
+  given = decodedNumber (decodeOf flags w)
+
+  case : Case flags w given
   case = by-flags (ltb allFlags flags) refl
     where
-      by-features : (e : Entry) → flags ≤ allFlags → lookup table w ≡ some e → (b : Bool) → eqb (lacking flags (e .needs)) 0 ≡ b → Case flags w (refusal (decodeOf flags w))
+      by-features : (e : Entry) → flags ≤ allFlags → lookup table w ≡ some e → (b : Bool) → eqb (lacking flags (e .needs)) 0 ≡ b → Case flags w given
       by-features e h p true q =
           let f = lacking-features flags w e p (eqb-true _ 0 q) in
           rw (accepted-when flags w h (found-listed w e p) f .1) (accepts h (found-listed w e p) f)
       by-features e h p false q =
           let f : FeaturesOn flags w → ⊥ = λ g. eqb-false _ 0 q (features-lacking flags w e p g) in
-          rw (feature-when flags w h (found-listed w e p) f) (refuses-feature h (found-listed w e p) f)
+          rw (feature-when flags w h (found-listed w e p) f) (gives-8 h (found-listed w e p) f)
 
-      by-line : flags ≤ allFlags → (o : Option Entry) → lookup table w ≡ o → Case flags w (refusal (decodeOf flags w))
+      by-line : flags ≤ allFlags → (o : Option Entry) → lookup table w ≡ o → Case flags w given
       by-line h none p =
           let l : Listed w → ⊥ = λ l. lookup-none w p (l .1) (l .2) in
-          rw (unlisted-when flags w h l) (refuses-unlisted h l)
+          rw (unlisted-when flags w h l) (gives-7 h l)
       by-line h (some e) p = by-features e h p (eqb (lacking flags (e .needs)) 0) refl
 
-      by-flags : (b : Bool) → ltb allFlags flags ≡ b → Case flags w (refusal (decodeOf flags w))
-      by-flags true p = let h = ltb-true allFlags flags p in rw (decode-flags flags w h) (refuses-flags h)
+      by-flags : (b : Bool) → ltb allFlags flags ≡ b → Case flags w given
+      by-flags true p = let h = ltb-true allFlags flags p in rw (decode-flags flags w h) (gives-1 h)
       by-flags false p = by-line (ltb-false allFlags flags p) (lookup table w) refl
 
-  at : {r : Option Refusal} {d : Decoded} → decodeOf flags w ≡ d → refusal d ≡ r → Case flags w r
-  at p q = subst (Case flags w) (ap refusal p ∙ q) case
+  at : {n : ℕ} → given ≡ n → Case flags w n
+  at p = subst (Case flags w) p case
 
-  is-accepted : Case flags w none → (flags ≤ allFlags) × Listed w × FeaturesOn flags w
+  is-accepted : Case flags w 0 → (flags ≤ allFlags) × Listed w × FeaturesOn flags w
   is-accepted (accepts h l f) = (h, l, f)
 
-  is-flags : Case flags w (some Flags) → allFlags < flags
-  is-flags (refuses-flags h) = h
+  is-1 : Case flags w 1 → allFlags < flags
+  is-1 (gives-1 h) = h
 
-  is-unlisted : Case flags w (some Unlisted) → (flags ≤ allFlags) × (Listed w → ⊥)
-  is-unlisted (refuses-unlisted h l) = (h, l)
+  is-7 : Case flags w 7 → (flags ≤ allFlags) × (Listed w → ⊥)
+  is-7 (gives-7 h l) = (h, l)
 
-  is-feature : Case flags w (some FeatureOff) → (flags ≤ allFlags) × Listed w × (FeaturesOn flags w → ⊥)
-  is-feature (refuses-feature h l f) = (h, l, f)
+  is-8 : Case flags w 8 → (flags ≤ allFlags) × Listed w × (FeaturesOn flags w → ⊥)
+  is-8 (gives-8 h l f) = (h, l, f)
 
   none-missing : missing flags w ≡ 0 → FeaturesOn flags w
   unfolding missing
@@ -120,7 +117,7 @@ module _ (flags w : ℕ) where
 
 accepted-described : (flags w : ℕ) (i : Instruction) → decodeOf flags w ≡ Accepted i → describe w ≡ some i
 accepted-described flags w i p =
-    let (h, l, f) = is-accepted flags w (at flags w p refl) in
+    let (h, l, f) = is-accepted flags w (at flags w (ap decodedNumber p)) in
     let (j, q, d) = accepted-when flags w h l f in
     cc
 
@@ -128,11 +125,11 @@ accepted-described flags w i p =
 pub decodes : (flags w : ℕ) → Decodes flags w
 decodes flags w =
     record {
-      accepts = (λ a. is-accepted flags w (at flags w (a .1) refl), λ c. let (i, p, d) = accepted-when flags w (c .0) (c .1) (c .2) in (i, p));
-      accepts-described = accepted-described flags w;
-      refuses-flags = (λ p. is-flags flags w (at flags w p refl), decode-flags flags w);
-      refuses-unlisted = (λ p. is-unlisted flags w (at flags w p refl), λ c. unlisted-when flags w (c .0) (c .1));
-      refuses-feature = (λ p. is-feature flags w (at flags w p refl), λ c. feature-when flags w (c .0) (c .1) (c .2));
+      accepts = (λ p. is-accepted flags w (at flags w p), λ c. ap decodedNumber (accepted-when flags w (c .0) (c .1) (c .2) .1));
+      gives-1 = (λ p. is-1 flags w (at flags w p), λ h. ap decodedNumber (decode-flags flags w h));
+      gives-7 = (λ p. is-7 flags w (at flags w p), λ c. ap decodedNumber (unlisted-when flags w (c .0) (c .1)));
+      gives-8 = (λ p. is-8 flags w (at flags w p), λ c. ap decodedNumber (feature-when flags w (c .0) (c .1) (c .2)));
+      describes = accepted-described flags w;
       missing-none = (none-missing flags w, missing-none flags w);
     }
 
@@ -155,6 +152,10 @@ described-is w i h p = go (lookup table w) refl p
         let s : described e w ≡ i = cc in
         (rw s at (o .in-range), rw s at (o .word))
 
+out-of-range : (i : Instruction) (b : Bool) → inRange i ≡ b → encodedNumber (encodeOf i) ≡ 11 → inRange i ≡ false
+out-of-range i true h p = let q = ap encodedNumber (encode-in-range i h) in absurd (omega arith)
+out-of-range i false h p = h
+
 -- a description in range has one word, which encode gives and decode takes back
 pub encodes : (i : Instruction) → Encodes i
 encodes i =
@@ -176,7 +177,7 @@ encodes i =
           rw e
           (decode-listed flags (wordFor i) (entryOf i) h (lookup-found (wordFor i) (in-table i) (l .hit))
           ∙ rw (eq-eqb _ 0 (on-lacking flags (entryOf i .needs) f), l .back));
-      refuses = encode-out-of-range i;
+      gives-11 = (out-of-range i (inRange i) refl, λ h. ap encodedNumber (encode-out-of-range i h));
     }
 
 -- a listed word is the word of one description, which is in range

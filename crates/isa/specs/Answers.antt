@@ -5,7 +5,7 @@ use mathlib.Core.Option.{Option, none, some}
 use Prim.Native.Nat.{ℕ}
 use lib.Dec.{eqb, ltb}
 use Rattle.isa.specs.Row.{matches}
-use Rattle.isa.specs.Refusals.{Test, firstFailure}
+use Rattle.isa.specs.Refusals.{number, Test, firstFailure}
 use Rattle.isa.specs.Table.{Feature, Entry, table, allFlags, lacking, described, inRange, wordFor}
 use Rattle.isa.specs.declared.Instruction.{Instruction}
 use Rattle.isa.specs.declared.Refusal.{Refusal}
@@ -54,7 +54,12 @@ decided (some r) d = NotDecoded r
 decided none (some i) = Accepted i
 decided none none = NotDecoded Unlisted
 
--- what the last test leaves of a listed word
+-- the paper's number of an answer: 0 where nothing is refused
+abbrev pub decodedNumber : Decoded → ℕ
+decodedNumber (Accepted i) = 0
+decodedNumber (NotDecoded r) = number r
+
+-- what test 8 leaves of a word that passed 1 and 7: `decode-listed` of proofs/Answers.antt ties it to decodeOf
 abbrev pub allowed : ℕ → Instruction → Decoded
 allowed lacks i = cond (eqb lacks 0) (Accepted i) (NotDecoded FeatureOff)
 
@@ -64,3 +69,7 @@ decodeOf flags w = decided (firstFailure (decodeTests flags w)) (describe w)
 -- ---- encode: test 11
 unfoldable pub encodeOf : Instruction → Encoded
 encodeOf i = cond (inRange i) (Word (wordFor i)) (NotEncoded OutOfRange)
+
+abbrev pub encodedNumber : Encoded → ℕ
+encodedNumber (Word w) = 0
+encodedNumber (NotEncoded r) = number r

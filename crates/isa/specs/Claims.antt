@@ -8,11 +8,10 @@ use Prim.Native.Nat.{ℕ, _≤_, _<_, _^_}
 use lib.ListN.{length}
 use Rattle.isa.specs.Row.{matches}
 use Rattle.isa.specs.Table.{Feature, Entry, table, allFlags, on, entryOf, inRange}
-use Rattle.isa.specs.Answers.{describe, missing, decodeOf, encodeOf}
+use Rattle.isa.specs.Answers.{describe, missing, decodeOf, decodedNumber, encodeOf, encodedNumber}
 use Rattle.isa.specs.declared.Instruction.{Instruction}
-use Rattle.isa.specs.declared.Refusal.the-variants.{Flags, Unlisted, FeatureOff, OutOfRange}
-use Rattle.isa.specs.declared.Decoded.the-variants.{Accepted, Refused as NotDecoded}
-use Rattle.isa.specs.declared.Encoded.the-variants.{Word, Refused as NotEncoded}
+use Rattle.isa.specs.declared.Decoded.the-variants.{Accepted}
+use Rattle.isa.specs.declared.Encoded.the-variants.{Word}
 
 -- a word matches some line of the table
 abbrev pub Listed : ℕ → Type 0
@@ -26,13 +25,13 @@ AllOn flags fs = (f : Feature) → List·Memᴰ f fs → on flags f ≡ true
 abbrev pub FeaturesOn : ℕ → ℕ → Type 0
 FeaturesOn flags w = (e : Entry) → List·Memᴰ e table → matches (e .row) w ≡ true → AllOn flags (e .needs)
 
--- which words decode accepts, and which refusal the others get
+-- which words decode accepts, and which number the others get
 pub record Decodes (flags w : ℕ) : Type 0 where
-  pub accepts : ((i : Instruction) × (decodeOf flags w ≡ Accepted i)) ↔ (flags ≤ allFlags) × Listed w × FeaturesOn flags w
-  pub accepts-described : (i : Instruction) → decodeOf flags w ≡ Accepted i → describe w ≡ some i
-  pub refuses-flags : (decodeOf flags w ≡ NotDecoded Flags) ↔ (allFlags < flags)
-  pub refuses-unlisted : (decodeOf flags w ≡ NotDecoded Unlisted) ↔ (flags ≤ allFlags) × (Listed w → ⊥)
-  pub refuses-feature : (decodeOf flags w ≡ NotDecoded FeatureOff) ↔ (flags ≤ allFlags) × Listed w × (FeaturesOn flags w → ⊥)
+  pub accepts : (decodedNumber (decodeOf flags w) ≡ 0) ↔ (flags ≤ allFlags) × Listed w × FeaturesOn flags w
+  pub gives-1 : (decodedNumber (decodeOf flags w) ≡ 1) ↔ (allFlags < flags)
+  pub gives-7 : (decodedNumber (decodeOf flags w) ≡ 7) ↔ (flags ≤ allFlags) × (Listed w → ⊥)
+  pub gives-8 : (decodedNumber (decodeOf flags w) ≡ 8) ↔ (flags ≤ allFlags) × Listed w × (FeaturesOn flags w → ⊥)
+  pub describes : (i : Instruction) → decodeOf flags w ≡ Accepted i → describe w ≡ some i
   pub missing-none : (missing flags w ≡ 0) ↔ FeaturesOn flags w
 
 -- w is the only word that is i
@@ -41,11 +40,11 @@ pub record OnlyWord (i : Instruction) (w : ℕ) : Type 0 where
   pub is : describe w ≡ some i
   pub only : (v : ℕ) → v < 2 ^ 32 → describe v ≡ some i → v ≡ w
 
--- a description in range has one word, which encode gives and decode takes back; any other gets OutOfRange
+-- a description in range has one word, which encode gives and decode takes back; any other gets 11
 pub record Encodes (i : Instruction) : Type 0 where
   pub word : inRange i ≡ true → (w : ℕ) × (encodeOf i ≡ Word w) × OnlyWord i w
   pub back : (flags w : ℕ) → encodeOf i ≡ Word w → flags ≤ allFlags → AllOn flags (entryOf i .needs) → decodeOf flags w ≡ Accepted i
-  pub refuses : inRange i ≡ false → encodeOf i ≡ NotEncoded OutOfRange
+  pub gives-11 : (encodedNumber (encodeOf i) ≡ 11) ↔ (inRange i ≡ false)
 
 -- a listed word is the word of one description, which is in range
 pub record Describes (w : ℕ) (i : Instruction) : Type 0 where

@@ -4,7 +4,7 @@ use mathlib.Core.List.{List, [], _∷_}
 use Prim.Native.Nat.{ℕ, zero, suc, _+_, _*_, _/_, _%_, _^_}
 use lib.Dec.{eqb}
 
--- every test of a list holds; the tests are joined from the left, as `a & b & c` is
+-- every test of a list holds; joined from the left, as the code's `a & b & c` is, so that the two compute alike
 abbrev pub everyFrom : Bool → List Bool → Bool
 everyFrom b [] = b
 everyFrom b (t ∷ ts) = everyFrom (b && t) ts
@@ -50,7 +50,7 @@ size [] = 0
 size (fixed k v ∷ r) = k + size r
 size (field n k ∷ r) = k + size r
 
--- the k bits of w that stand above its lowest s
+-- the k bits of w that stand above its lowest s; where s is 0, without a division by 1, as in code
 abbrev pub bits : ℕ → ℕ → ℕ → ℕ
 bits zero k w = w % 2 ^ k
 bits (suc s) k w = w / 2 ^ suc s % 2 ^ k
@@ -67,7 +67,7 @@ fieldOf [] w n = 0
 fieldOf (fixed k v ∷ r) w n = fieldOf r w n
 fieldOf (field m k ∷ r) w n = cond (same m n) (bits (size r) k w) (fieldOf r w n)
 
--- a word matches a row where it has each of its fixed patterns
+-- a word matches a row where it has each of the row's fixed patterns; bits above the row's do not count
 abbrev pub tests : Row → ℕ → List Bool
 tests [] w = []
 tests (fixed k v ∷ r) w = eqb (bits (size r) k w) v ∷ tests r w

@@ -32,7 +32,7 @@ quarter64 = fixed 7 0b1010000 ∷ field u0 1 ∷ fixed 2 0b11 ∷ field u1 1 ∷
 abbrev pub zero8 : Row
 zero8 = fixed 24 0b110000000000100000000000 ∷ field mask 8 ∷ []
 
--- ---- features: flags are their sum
+-- ---- features: FEAT_SME, FEAT_SME_I16I64 and FEAT_SME_MOP4; the flags of a bench are the sum of those that are on
 pub data Feature : Type 0 where
   SME I16I64 MOP4 : Feature
 
@@ -41,7 +41,7 @@ flag SME = 1
 flag I16I64 = 2
 flag MOP4 = 4
 
--- the flags that are the sum of all features: none are above it
+-- every feature on; a larger number is no sum of features
 abbrev pub allFlags : ℕ
 allFlags = 7
 

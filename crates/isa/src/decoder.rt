@@ -15,14 +15,14 @@ use crate::Source;
 use crate::Tile;
 use crate::Vector;
 
-// The feature flags.
+// The features' flags.
 const SME: u32 = 1;
 
 const I16I64: u32 = 2;
 
 const MOP4: u32 = 4;
 
-// The instruction that a word is, where the features that it needs are on.
+// The instruction that a word is, or why it is none: illegal flags, an unlisted word, a missing feature.
 pub fn decode(flags: u32, word: u32) -> Decoded
     ensures { λ r. ⌜ r ≡ decodeOf flags word ⌝ }
 {
@@ -30,22 +30,22 @@ pub fn decode(flags: u32, word: u32) -> Decoded
         return Decoded::Refused(Refusal::Flags);
     }
     if is_predicated32(word) {
-        return accept(off(flags, SME), predicated_at(word, false));
+        return accept(lacked(flags, SME), predicated_of(word, false));
     }
     if is_predicated64(word) {
-        return accept(off(flags, I16I64), predicated_at(word, true));
+        return accept(lacked(flags, I16I64), predicated_of(word, true));
     }
     if is_quarter32(word) {
-        return accept(off(flags, MOP4), quarter_at(word, false));
+        return accept(lacked(flags, MOP4), quarter_of(word, false));
     }
     if is_quarter64(word) {
         return accept(
-            off(flags, MOP4) + off(flags, I16I64),
-            quarter_at(word, true),
+            lacked(flags, MOP4) + lacked(flags, I16I64),
+            quarter_of(word, true),
         );
     }
     if is_zero(word) {
-        return accept(off(flags, SME), Instruction::Zero((word % 256) as u8));
+        return accept(lacked(flags, SME), Instruction::Zero((word % 256) as u8));
     }
     Decoded::Refused(Refusal::Unlisted)
 }
@@ -62,7 +62,7 @@ fn accept(missing: u32, i: Instruction) -> Decoded
 }
 
 // A feature's flag where flags lack it, else 0.
-fn off(flags: u32, flag: u32) -> u32
+fn lacked(flags: u32, flag: u32) -> u32
     requires { ⌜ 0 < flag ⌝ }
     ensures { λ r. ⌜ r ≡ cond (eqb (flags / flag % 2) 1) 0 flag ⌝ }
     ensures { λ r. ⌜ r ≤ flag ⌝ }
@@ -112,14 +112,14 @@ fn is_zero(w: u32) -> bool
     (w >> 8) % 0x1000000 == 0b110000000000100000000000
 }
 
-// The description that a word's fields are.
+// The description made from a word's fields.
 
-fn predicated_at(w: u32, wide: bool) -> Instruction
+fn predicated_of(w: u32, wide: bool) -> Instruction
     ensures { λ r. ⌜ r ≡ described (predicated wide) w ⌝ }
 {
     Instruction::Predicated {
-        op: operation_at(w, wide),
-        tile: tile_at(w, wide),
+        op: operation_of(w, wide),
+        tile: tile_of(w, wide),
         pn: Predicate((w >> 10) % 8),
         pm: Predicate((w >> 13) % 8),
         zn: Vector((w >> 5) % 32),
@@ -127,19 +127,19 @@ fn predicated_at(w: u32, wide: bool) -> Instruction
     }
 }
 
-fn quarter_at(w: u32, wide: bool) -> Instruction
+fn quarter_of(w: u32, wide: bool) -> Instruction
     ensures { λ r. ⌜ r ≡ described (quarter wide) w ⌝ }
 {
     Instruction::Quarter {
-        op: operation_at(w, wide),
-        tile: tile_at(w, wide),
-        first: source_at((w >> 9) % 2 == 1, 2 * ((w >> 6) % 8)),
-        second: source_at((w >> 20) % 2 == 1, 16 + 2 * ((w >> 17) % 8)),
+        op: operation_of(w, wide),
+        tile: tile_of(w, wide),
+        first: source_of((w >> 9) % 2 == 1, 2 * ((w >> 6) % 8)),
+        second: source_of((w >> 20) % 2 == 1, 16 + 2 * ((w >> 17) % 8)),
     }
 }
 
 // u0, u1 and S stand at the same bits in every outer product.
-fn operation_at(w: u32, wide: bool) -> Operation
+fn operation_of(w: u32, wide: bool) -> Operation
     ensures { λ r. ⌜ r ≡ operationFrom wide (fieldOf predicated32 w) ⌝ }
 {
     Operation {
@@ -150,13 +150,13 @@ fn operation_at(w: u32, wide: bool) -> Operation
     }
 }
 
-fn tile_at(w: u32, wide: bool) -> Tile
+fn tile_of(w: u32, wide: bool) -> Tile
     ensures { λ r. ⌜ r ≡ record { 0 = w % tilesOf wide } ⌝ }
 {
     if wide { Tile(w % 8) } else { Tile(w % 4) }
 }
 
-fn source_at(pair: bool, n: u32) -> Source
+fn source_of(pair: bool, n: u32) -> Source
     ensures { λ r. ⌜ r ≡ source pair n ⌝ }
 {
     if pair {

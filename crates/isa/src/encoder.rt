@@ -13,7 +13,7 @@ use crate::Source;
 use crate::Tile;
 use crate::Vector;
 
-// The one word of a description that is in range.
+// The one word of a description that is in range; any other is refused.
 pub fn encode(i: Instruction) -> Encoded
     ensures { λ r. ⌜ r ≡ encodeOf i ⌝ }
 {

@@ -56,17 +56,17 @@ returns c = sym (decode-flags _ _ (c .if1 .taken))
 returns-2 : tie.Need-returns-2
 returns-2 c =
     let t = c .before .before .before in
-    hit (left1 (t .before .before)) (t .before .is-predicated32 .ensures) (t .if2 .taken) (one (c .before .before .off .ensures .0)) (c .before .predicated-at .ensures) (c .accept .ensures)
+    hit (left1 (t .before .before)) (t .before .is-predicated32 .ensures) (t .if2 .taken) (one (c .before .before .lacked .ensures .0)) (c .before .predicated-of .ensures) (c .accept .ensures)
 
 returns-3 : tie.Need-returns-3
 returns-3 c =
     let t = c .before .before .before in
-    hit (left2 (t .before .before)) (t .before .is-predicated64 .ensures) (t .if3 .taken) (one (c .before .before .off2 .ensures .0)) (c .before .predicated-at2 .ensures) (c .accept2 .ensures)
+    hit (left2 (t .before .before)) (t .before .is-predicated64 .ensures) (t .if3 .taken) (one (c .before .before .lacked2 .ensures .0)) (c .before .predicated-of2 .ensures) (c .accept2 .ensures)
 
 returns-4 : tie.Need-returns-4
 returns-4 c =
     let t = c .before .before .before in
-    hit (left3 (t .before .before)) (t .before .is-quarter32 .ensures) (t .if4 .taken) (one (c .before .before .off3 .ensures .0)) (c .before .quarter-at .ensures) (c .accept3 .ensures)
+    hit (left3 (t .before .before)) (t .before .is-quarter32 .ensures) (t .if4 .taken) (one (c .before .before .lacked3 .ensures .0)) (c .before .quarter-of .ensures) (c .accept3 .ensures)
 
 add-accept : tie.Need-add-accept
 add-accept c = omega arith
@@ -75,13 +75,13 @@ returns-5 : tie.Need-returns-5
 returns-5 c =
     let t = c .before .before .before .before in
     hit (left4 (t .before .before)) (t .before .is-quarter64 .ensures) (t .if5 .taken)
-    (ap₂ _+_ (c .before .before .before .off4 .ensures .0) (one (c .before .before .off5 .ensures .0)))
-    (c .before .quarter-at2 .ensures) (c .accept4 .ensures)
+    (ap₂ _+_ (c .before .before .before .lacked4 .ensures .0) (one (c .before .before .lacked5 .ensures .0)))
+    (c .before .quarter-of2 .ensures) (c .accept4 .ensures)
 
 returns-6 : tie.Need-returns-6
 returns-6 c =
     let t = c .before .before in
-    hit (left5 (t .before .before)) (t .before .is-zero .ensures) (t .if6 .taken) (one (c .before .off6 .ensures .0)) refl (c .accept5 .ensures)
+    hit (left5 (t .before .before)) (t .before .is-zero .ensures) (t .if6 .taken) (one (c .before .lacked6 .ensures .0)) refl (c .accept5 .ensures)
 
 returns-7 : tie.Need-returns-7
 returns-7 c = sym (decode-unlisted _ _ (left6 c .legal) (left6 c .is))

@@ -1,4 +1,4 @@
--- `isa::decoder::quarter_at` meets its contract: at either width the bits that it takes are the row's fields.
+-- `isa::decoder::quarter_of` meets its contract: at either width the bits that it takes are the row's fields.
 -- Assumes nothing.
 use mathlib.Core.Path.{_≡_}
 use mathlib.Core.Bool.{Bool, true, false}
@@ -11,8 +11,8 @@ use Rattle.isa.specs.declared.Tile.{Tile}
 use Rattle.isa.specs.declared.Operation.{Operation}
 use Rattle.isa.specs.declared.Source.{Source}
 use Rattle.isa.specs.declared.Instruction.the-variants.{Quarter}
-use Rattle.isa.proofs.decoder.quarter_at.Statement.{statement}
-use Rattle.isa.proofs.decoder.quarter_at.Tie as tie
+use Rattle.isa.proofs.decoder.quarter_of.Statement.{statement}
+use Rattle.isa.proofs.decoder.quarter_of.Tie as tie
 
 at-is : (wide : Bool) (w : ℕ) {op : Operation} {tile : Tile} {first second : Source} → op ≡ operationFrom wide (fieldOf predicated32 w) → tile ≡ record { 0 = w % tilesOf wide }
     → first ≡ source (eqb (w / 512 % 2) 1) (2 * (w / 64 % 8)) → second ≡ source (eqb (w / 1048576 % 2) 1) (16 + 2 * (w / 131072 % 8))
@@ -20,8 +20,8 @@ at-is : (wide : Bool) (w : ℕ) {op : Operation} {tile : Tile} {first second : S
 at-is true w p q m n = rw (p, q, m, n)
 at-is false w p q m n = rw (p, q, m, n)
 
-pub quarter-at-spec : {M : Type 1} → statement M
-quarter-at-spec =
+pub quarter-of-spec : {M : Type 1} → statement M
+quarter-of-spec =
     tie.close
     (tie.spec
     (λ c κs. tt)
@@ -31,4 +31,4 @@ quarter-at-spec =
     (λ c. search needs)
     (λ c. search needs)
     (λ c κs. tt)
-    (λ c. at-is _ _ (c .before .before .before .operation-at .ensures) (c .before .before .tile-at .ensures) (c .before .source-at .ensures) (c .source-at2 .ensures)))
+    (λ c. at-is _ _ (c .before .before .before .operation-of .ensures) (c .before .before .tile-of .ensures) (c .before .source-of .ensures) (c .source-of2 .ensures)))

@@ -1,4 +1,4 @@
--- `isa::decoder::predicated_at` meets its contract: at either width the bits that it takes are the row's fields.
+-- `isa::decoder::predicated_of` meets its contract: at either width the bits that it takes are the row's fields.
 -- Assumes nothing.
 use mathlib.Core.Path.{_≡_, ap₂}
 use mathlib.Core.Bool.{Bool, true, false}
@@ -9,8 +9,8 @@ use Rattle.isa.specs.declared.Tile.{Tile}
 use Rattle.isa.specs.declared.Operation.{Operation}
 use Rattle.isa.specs.declared.Instruction.{Instruction}
 use Rattle.isa.specs.declared.Instruction.the-variants.{Predicated}
-use Rattle.isa.proofs.decoder.predicated_at.Statement.{statement}
-use Rattle.isa.proofs.decoder.predicated_at.Tie as tie
+use Rattle.isa.proofs.decoder.predicated_of.Statement.{statement}
+use Rattle.isa.proofs.decoder.predicated_of.Tie as tie
 
 abbrev at : ℕ → Operation → Tile → Instruction
 at w op tile = Predicated op tile (record { 0 = w / 1024 % 8 }) (record { 0 = w / 8192 % 8 }) (record { 0 = w / 32 % 32 }) (record { 0 = w / 65536 % 32 })
@@ -19,6 +19,6 @@ at-is : (wide : Bool) (w : ℕ) {op : Operation} {tile : Tile} → op ≡ operat
 at-is true w p q = ap₂ (at w) p q
 at-is false w p q = ap₂ (at w) p q
 
-pub predicated-at-spec : {M : Type 1} → statement M
-predicated-at-spec =
-    tie.close (tie.spec (λ c κs. tt) (λ c κs. tt) (λ c. at-is _ _ (c .before .operation-at .ensures) (c .tile-at .ensures)))
+pub predicated-of-spec : {M : Type 1} → statement M
+predicated-of-spec =
+    tie.close (tie.spec (λ c κs. tt) (λ c κs. tt) (λ c. at-is _ _ (c .before .operation-of .ensures) (c .tile-of .ensures)))
