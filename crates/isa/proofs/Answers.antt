@@ -1,17 +1,19 @@
 -- What decode and encode answer, by what is found in the table: the laws that a caller uses. Assumes nothing.
-use mathlib.Core.Path.{_≡_, refl}
+use mathlib.Core.Path.{_≡_, _∙_, refl, ap}
 use mathlib.Core.Bool.{Bool, true, false, not, cond}
 use mathlib.Core.List.{List, [], _∷_, List·Memᴰ, List·Memᴰ·head, List·Memᴰ·tail}
-use mathlib.Core.Option.{none, some}
+use mathlib.Core.Option.{Option, none, some}
 use Prim.Native.Nat.{ℕ, _+_, _≤_, _<_}
 use native.Mathlib.Omega.{arith}
-use lib.Dec.{eqb}
+use lib.Dec.{eqb, ltb}
 use borrow.Author.Tests.{lt-ltb, le-ltb}
 use Rattle.isa.specs.Row.{matches}
+use Rattle.isa.specs.Refusals.{firstFailure}
 use Rattle.isa.specs.Table.{Feature, flag, SME, I16I64, MOP4, on, lacking, allFlags, Entry, table, described, inRange, wordFor}
-use Rattle.isa.specs.Answers.{lookup, describe, missing, decided, allowed, decodeOf, encodeOf}
+use Rattle.isa.specs.Answers.{lookup, describe, missing, decodeTests, decided, allowed, decodeOf, encodeOf}
 use Rattle.isa.specs.Claims.{AllOn}
 use Rattle.isa.specs.declared.Instruction.{Instruction}
+use Rattle.isa.specs.declared.Refusal.{Refusal}
 use Rattle.isa.specs.declared.Refusal.the-variants.{Flags, Unlisted, FeatureOff, OutOfRange}
 use Rattle.isa.specs.declared.Decoded.the-variants.{Accepted, Refused as NotDecoded}
 use Rattle.isa.specs.declared.Encoded.the-variants.{Word, Refused as NotEncoded}
@@ -53,6 +55,34 @@ decode-listed flags w e h p = rw (le-ltb allFlags flags h, p) (go (eqb (lacking 
     go : (b : Bool) → decided (cond (not b) (some FeatureOff) none) (some (described e w)) ≡ cond b (Accepted (described e w)) (NotDecoded FeatureOff)
     go true = refl
     go false = refl
+
+-- an unlisted word fails a test
+unlisted-fails : (flags w : ℕ) → describe w ≡ none → firstFailure (decodeTests flags w) ≡ none → ⊥
+unlisted-fails flags w d p = go (ltb allFlags flags) (rw d at p)
+  where
+    go : (b : Bool) → cond b (some Flags) (some Unlisted) ≡ none → ⊥
+    go true q = let z : _≡_ {A = ℕ} 0 1 = cc in omega arith
+    go false q = let z : _≡_ {A = ℕ} 0 1 = cc in omega arith
+
+-- decode's answer by its tests, for those who make further tests
+pub decode-refused : (flags w : ℕ) (r : Refusal) → decodeOf flags w ≡ NotDecoded r → firstFailure (decodeTests flags w) ≡ some r
+unfolding decodeOf
+decode-refused flags w r p = go (firstFailure (decodeTests flags w)) (describe w) refl refl p
+  where
+    go : (o : Option Refusal) (d : Option Instruction) → firstFailure (decodeTests flags w) ≡ o → describe w ≡ d → decided o d ≡ NotDecoded r → firstFailure (decodeTests flags w) ≡ some r
+    go (some q) d e f h = let z : q ≡ r = cc in e ∙ ap {B = Option Refusal} some z
+    go none (some i) e f h = let z : _≡_ {A = ℕ} 0 1 = cc in absurd (omega arith)
+    go none none e f h = absurd (unlisted-fails flags w f e)
+
+pub decode-passed : (flags w : ℕ) (i : Instruction) → decodeOf flags w ≡ Accepted i → (firstFailure (decodeTests flags w) ≡ none) × (describe w ≡ some i)
+unfolding decodeOf
+decode-passed flags w i p = go (firstFailure (decodeTests flags w)) (describe w) refl refl p
+  where
+    go : (o : Option Refusal) (d : Option Instruction) → firstFailure (decodeTests flags w) ≡ o → describe w ≡ d → decided o d ≡ Accepted i
+        → (firstFailure (decodeTests flags w) ≡ none) × (describe w ≡ some i)
+    go (some q) d e f h = let z : _≡_ {A = ℕ} 0 1 = cc in absurd (omega arith)
+    go none (some j) e f h = let z : j ≡ i = cc in (e, f ∙ ap {B = Option Instruction} some z)
+    go none none e f h = let z : _≡_ {A = ℕ} 0 1 = cc in absurd (omega arith)
 
 -- ---- the description of a word
 pub describe-found : {e : Entry} (w : ℕ) → List·Memᴰ e table → matches (e .row) w ≡ true → describe w ≡ some (described e w)

@@ -1,4 +1,5 @@
 pub mod Tests
+pub mod Refusals
 pub mod Rows
 pub mod Lines
 pub mod Lookup

@@ -182,7 +182,7 @@ predicated-range op tile pn pm zn zm h =
     predicated-fit (fieldsFrom i) (op .wide) (range-fit i h) .0
 
 pub quarter-range : (op : Operation) (tile : Tile) (first second : Source) → inRange (Quarter op tile first second) ≡ true
-    → Fit quarter64 (fieldsFrom (Quarter op tile first second)) × (register first < 16) × (16 ≤ register second) × (register second < 32)
+    → Fit quarter64 (fieldsFrom (Quarter op tile first second)) × (register first ≤ 14) × (16 ≤ register second) × (register second ≤ 30)
 quarter-range op tile first second h =
     let i = Quarter op tile first second in
     let p = every-all (ranges i) h in

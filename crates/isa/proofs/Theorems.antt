@@ -16,7 +16,7 @@ use Rattle.isa.specs.declared.Encoded.the-variants.{Word}
 use Rattle.isa.proofs.Lines.{in-table, described-word, word-described}
 use Rattle.isa.proofs.Lookup.{lookup-found, lookup-some, lookup-none}
 use Rattle.isa.proofs.Lookup.{one-line as lookup-one-line}
-use Rattle.isa.proofs.Answers.{lacking-none, on-lacking, decode-flags, decode-unlisted, decode-listed, describe-found, encode-in-range, encode-out-of-range, encoded}
+use Rattle.isa.proofs.Answers.{lacking-none, on-lacking, decode-flags, decode-unlisted, decode-listed, decode-passed, describe-found, encode-in-range, encode-out-of-range, encoded}
 
 -- ---- what is found, in the claims' terms
 listed-found : (w : ℕ) → Listed w → (e : Entry) × (lookup table w ≡ some e)
@@ -115,12 +115,6 @@ module _ (flags w : ℕ) where
       go none p = refl
       go (some e) p = features-lacking flags w e p h
 
-accepted-described : (flags w : ℕ) (i : Instruction) → decodeOf flags w ≡ Accepted i → describe w ≡ some i
-accepted-described flags w i p =
-    let (h, l, f) = is-accepted flags w (at flags w (ap decodedNumber p)) in
-    let (j, q, d) = accepted-when flags w h l f in
-    cc
-
 -- which words decode accepts, and what the others get
 pub decodes : (flags w : ℕ) → Decodes flags w
 decodes flags w =
@@ -129,7 +123,7 @@ decodes flags w =
       gives-1 = (λ p. is-1 flags w (at flags w p), λ h. ap decodedNumber (decode-flags flags w h));
       gives-7 = (λ p. is-7 flags w (at flags w p), λ c. ap decodedNumber (unlisted-when flags w (c .0) (c .1)));
       gives-8 = (λ p. is-8 flags w (at flags w p), λ c. ap decodedNumber (feature-when flags w (c .0) (c .1) (c .2)));
-      describes = accepted-described flags w;
+      describes = λ i p. decode-passed flags w i p .1;
       missing-none = (none-missing flags w, missing-none flags w);
     }
 
@@ -205,4 +199,4 @@ one-line = lookup-one-line
 
 -- what decode accepts is in range: the promise that callers of decode rest on
 pub accepted-in-range : (flags w : ℕ) (i : Instruction) → w < 2 ^ 32 → decodeOf flags w ≡ Accepted i → inRange i ≡ true
-accepted-in-range flags w i h p = described-is w i h (accepted-described flags w i p) .0
+accepted-in-range flags w i h p = described-is w i h (decode-passed flags w i p .1) .0

@@ -1,0 +1,5 @@
+pub mod Puts
+pub mod Texts
+pub mod Rooms
+pub mod Lengths
+pub mod Examples

@@ -1,0 +1,21 @@
+-- `text::line::put_predicates` meets its contract: the two names one after the other. Assumes nothing.
+use mathlib.Core.Path.{refl}
+use Rattle.text.proofs.Puts.{_then_, put-as}
+use borrow.Author.Needs.{needs}
+use native.Mathlib.Omega.{arith}
+use Rattle.text.proofs.line.put_predicates.Statement.{statement}
+use Rattle.text.proofs.line.put_predicates.Tie as tie
+
+returns : tie.Need-returns
+returns c = put-as (c .before .before .before .before .before .before .before .put-name .ensures then c .before .before .put-name2 .ensures) refl (omega arith)
+
+pub put-predicates-spec : {M : Type 1} → statement M
+put-predicates-spec =
+    tie.close
+    (tie.spec
+    (λ c. search needs)
+    (λ c κs. search needs)
+    (λ c. search needs)
+    (λ c κs. search needs)
+    (λ c. search needs)
+    returns)

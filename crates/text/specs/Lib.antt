@@ -1,0 +1,5 @@
+pub mod Ascii
+pub mod Spelling
+pub mod Put
+pub mod Printing
+pub mod Examples

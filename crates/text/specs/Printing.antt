@@ -1,0 +1,59 @@
+-- What print answers and what it leaves in the room (document 01, "Text" and "Refusal numbers").
+use mathlib.Core.Bool.{cond}
+use mathlib.Core.List.{List, [], _∷_, _++_}
+use mathlib.Core.Option.{Option, none, some}
+use Prim.Native.Nat.{ℕ}
+use lib.Dec.{ltb}
+use lib.ListN.{length, drop}
+use Rattle.isa.specs.Refusals.{number, Test, firstFailure}
+use Rattle.isa.specs.Answers.{describe, decodeTests}
+use Rattle.isa.specs.declared.Instruction.{Instruction}
+use Rattle.isa.specs.declared.Refusal.{Refusal}
+use Rattle.isa.specs.declared.Refusal.the-variants.{Room}
+use Rattle.text.specs.Spelling.{Text, spelling}
+use Rattle.text.specs.declared.Printed.{Printed}
+use Rattle.text.specs.declared.Printed.the-variants.{Length, Refused}
+
+-- the text of a word; none of it where the table does not list the word
+abbrev pub spelt : Option Instruction → Text
+spelt none = []
+spelt (some i) = spelling i
+
+unfoldable pub textOf : ℕ → Text
+textOf w = spelt (describe w)
+
+-- tests 1, 7, 8, 12
+abbrev pub printTests : ℕ → ℕ → ℕ → List Test
+printTests flags w room = decodeTests flags w ++ (record { fails = ltb room (length (textOf w)); gives = Room } ∷ [])
+
+abbrev pub printed : Option Refusal → Text → Printed
+printed none t = Length (length t)
+printed (some r) t = Refused r
+
+-- the answer, for a room of so many bytes
+unfoldable pub printOf : ℕ → ℕ → ℕ → Printed
+printOf flags w room = printed (firstFailure (printTests flags w room)) (textOf w)
+
+-- the text at the start, and the bytes after it as they were; refused, all of them as they were
+abbrev pub filled : Option Refusal → Text → List ℕ → List ℕ
+filled none t room = t ++ drop (length t) room
+filled (some r) t room = room
+
+unfoldable pub roomAfter : ℕ → ℕ → List ℕ → List ℕ
+roomAfter flags w room = filled (firstFailure (printTests flags w (length room))) (textOf w) room
+
+-- the paper's number and value of an answer
+abbrev pub printedNumber : Printed → ℕ
+printedNumber (Length n) = 0
+printedNumber (Refused r) = number r
+
+abbrev pub printedLength : Printed → ℕ
+printedLength (Length n) = n
+printedLength (Refused r) = 0
+
+-- the same for a word that passed 1, 7 and 8: its instruction alone decides
+abbrev pub printedIn : Instruction → ℕ → Printed
+printedIn i room = cond (ltb room (length (spelling i))) (Refused Room) (Length (length (spelling i)))
+
+abbrev pub filledWith : Instruction → List ℕ → List ℕ
+filledWith i room = cond (ltb (length room) (length (spelling i))) room (spelling i ++ drop (length (spelling i)) room)

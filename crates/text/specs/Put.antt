@@ -1,0 +1,24 @@
+-- What putting a text on a line leaves: the words of the printer's own contracts.
+use mathlib.Core.Path.{_≡_}
+use mathlib.Core.Bool.{true, cond}
+use mathlib.Core.List.{List, [], _∷_, _++_}
+use Prim.Native.Nat.{ℕ, _+_, _/_, _%_, _^_, _≤_}
+use lib.Dec.{eqb}
+use lib.ListN.{length, take}
+use Rattle.text.specs.Ascii.{ascii}
+use Rattle.text.specs.Spelling.{Text, tileName, further}
+
+-- t, at most so many bytes, stands on the line from `at` to `next`; what stood before it is as it was
+pub record Put (most : ℕ) (before : List ℕ) (at : ℕ) (line : List ℕ) (next : ℕ) (t : Text) : Type 0 where
+  pub short : length t ≤ most
+  pub ends : next ≡ at + length t
+  pub text : take next line ≡ take at before ++ t
+
+-- names as they stand behind ZERO's opening brace: a space before the first, a comma and a space before each other
+abbrev pub shown : List Text → Text
+shown [] = []
+shown (t ∷ ts) = ascii " " ++ t ++ further ts
+
+-- tile i as it stands there, if the mask has it; the first stands at 6
+abbrev pub listed : ℕ → ℕ → ℕ → Text
+listed at m i = cond (eqb (m / 2 ^ i % 2) 0) [] (cond (eqb at 6) (ascii " ") (ascii ", ") ++ tileName true (record { 0 = i }))

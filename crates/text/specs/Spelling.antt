@@ -1,0 +1,84 @@
+-- How each instruction is spelt (document 01, "Text"): lower case, decimal without leading zeros.
+use mathlib.Core.Bool.{Bool, true, cond}
+use mathlib.Core.List.{List, [], _∷_, _++_}
+use Prim.Native.Nat.{ℕ, zero, suc, _+_, _/_, _%_, _^_}
+use lib.Dec.{eqb, ltb}
+use Rattle.isa.specs.declared.Predicate.{Predicate}
+use Rattle.isa.specs.declared.Tile.{Tile}
+use Rattle.isa.specs.declared.Operation.{Operation}
+use Rattle.isa.specs.declared.Source.{Source}
+use Rattle.isa.specs.declared.Source.the-variants.{One, Pair}
+use Rattle.isa.specs.declared.Instruction.{Instruction}
+use Rattle.isa.specs.declared.Instruction.the-variants.{Predicated, Quarter, Zero}
+use Rattle.text.specs.Ascii.{ascii}
+
+abbrev pub Text : Type 0
+Text = List ℕ
+
+-- ---- numbers: a number below 100, as every register's is
+abbrev pub digit : ℕ → ℕ
+digit n = 48 + n
+
+abbrev pub decimal : ℕ → Text
+decimal n = cond (ltb n 10) (digit n ∷ []) (digit (n / 10) ∷ digit (n % 10) ∷ [])
+
+-- ---- mnemonics: which sources are unsigned, the family's stem, and a to add or s to subtract
+abbrev pub signs : Bool → Bool → Text
+signs u0 u1 = cond u0 (cond u1 (ascii "u") (ascii "us")) (cond u1 (ascii "su") (ascii "s"))
+
+abbrev pub direction : Bool → Text
+direction subtract = cond subtract (ascii "s") (ascii "a")
+
+abbrev pub mnemonic : Text → Operation → Text
+mnemonic stem op = signs (op .u0) (op .u1) ++ stem ++ direction (op .subtract)
+
+-- ---- operands; a tile's elements are four times as wide as its sources'
+abbrev pub tileSuffix : Bool → Text
+tileSuffix wide = cond wide (ascii ".d") (ascii ".s")
+
+abbrev pub sourceSuffix : Bool → Text
+sourceSuffix wide = cond wide (ascii ".h") (ascii ".b")
+
+abbrev pub tileName : Bool → Tile → Text
+tileName wide t = ascii "za" ++ decimal (t .0) ++ tileSuffix wide
+
+abbrev pub predicateName : Predicate → Text
+predicateName p = ascii "p" ++ decimal (p .0) ++ ascii "/m"
+
+abbrev pub vectorName : Bool → ℕ → Text
+vectorName wide n = ascii "z" ++ decimal n ++ sourceSuffix wide
+
+abbrev pub sourceName : Bool → Source → Text
+sourceName wide (One v) = vectorName wide (v .0)
+sourceName wide (Pair v) = ascii "{ " ++ vectorName wide (v .0) ++ ascii "-" ++ vectorName wide (v .0 + 1) ++ ascii " }"
+
+-- texts with a comma and a space between each two
+abbrev pub further : List Text → Text
+further [] = []
+further (t ∷ ts) = ascii ", " ++ t ++ further ts
+
+abbrev pub separated : List Text → Text
+separated [] = []
+separated (t ∷ ts) = t ++ further ts
+
+-- ---- ZERO: the 64-bit tiles of the mask, rising
+abbrev pub tilesFrom : ℕ → ℕ → ℕ → List Text
+tilesFrom zero i m = []
+tilesFrom (suc k) i m = cond (eqb (m / 2 ^ i % 2) 1) (tileName true (record { 0 = i }) ∷ tilesFrom k (i + 1) m) (tilesFrom k (i + 1) m)
+
+abbrev pub tilesOfMask : ℕ → List Text
+tilesOfMask m = tilesFrom 8 0 m
+
+abbrev pub braced : List Text → Text
+braced [] = ascii "{}"
+braced (t ∷ ts) = ascii "{ " ++ separated (t ∷ ts) ++ ascii " }"
+
+-- ---- the line of an instruction
+unfoldable pub spelling : Instruction → Text
+spelling (Predicated op tile pn pm zn zm) =
+    mnemonic (ascii "mop") op ++ ascii " "
+    ++ separated (tileName (op .wide) tile ∷ predicateName pn ∷ predicateName pm ∷ vectorName (op .wide) (zn .0) ∷ vectorName (op .wide) (zm .0) ∷ [])
+spelling (Quarter op tile first second) =
+    mnemonic (ascii "mop4") op ++ ascii " "
+    ++ separated (tileName (op .wide) tile ∷ sourceName (op .wide) first ∷ sourceName (op .wide) second ∷ [])
+spelling (Zero m) = ascii "zero " ++ braced (tilesOfMask m)

@@ -1,0 +1,230 @@
+// Spells an instruction on a line, part by part. Each `put` puts a text at `at` and answers the place after it.
+ghost use mathlib.Core.Path.{_≡_};
+ghost use mathlib.Core.Bool.{true};
+ghost use mathlib.Core.List.{[], _∷_, _++_};
+ghost use Prim.Native.Nat.{_+_, _/_, _%_, _≤_, _<_};
+ghost use lib.ListN.{length};
+ghost use Rattle.isa.specs.Table.{inRange, register};
+ghost use Rattle.text.specs.Ascii.{ascii};
+ghost use Rattle.text.specs.Spelling.{spelling, tilesOfMask, decimal, signs, mnemonic, tileName, predicateName, vectorName, tileSuffix, sourceSuffix, sourceName};
+ghost use Rattle.text.specs.Put.{Put, listed, shown};
+use isa::Instruction;
+use isa::Operation;
+use isa::Predicate;
+use isa::Source;
+use isa::Tile;
+use isa::Vector;
+
+// The line of an instruction, at the start of line.
+pub fn spell(i: Instruction, line: &mut [u8]) -> usize
+    requires { ⌜ (64 ≤ length (now line)) × (inRange i ≡ true) ⌝ }
+    ensures { λ r. ⌜ Put 64 (now (line .entry)) 0 (now (line .exit)) r (spelling i) ⌝ }
+{
+    match i {
+        Instruction::Predicated {
+            op,
+            tile,
+            pn,
+            pm,
+            zn,
+            zm,
+        } => spell_predicated(line, op, tile, pn, pm, zn, zm),
+        Instruction::Quarter {
+            op,
+            tile,
+            first,
+            second,
+        } => spell_quarter(line, op, tile, first, second),
+        Instruction::Zero(mask) => spell_zero(line, mask),
+    }
+}
+
+fn spell_predicated(
+    line: &mut [u8],
+    op: Operation,
+    tile: Tile,
+    pn: Predicate,
+    pm: Predicate,
+    zn: Vector,
+    zm: Vector,
+) -> usize
+    requires { ⌜ (64 ≤ length (now line)) × (inRange (Instruction.Predicated op tile pn pm zn zm) ≡ true) ⌝ }
+    ensures { λ r. ⌜ Put 64 (now (line .entry)) 0 (now (line .exit)) r (spelling (Instruction.Predicated op tile pn pm zn zm)) ⌝ }
+{
+    let wide = op.wide;
+    let a = put_heading(line, b"mop", op, tile);
+    let b = put_predicates(line, a, pn, pm);
+    put_vectors(line, b, wide, zn, zm)
+}
+
+fn spell_quarter(line: &mut [u8], op: Operation, tile: Tile, first: Source, second: Source) -> usize
+    requires { ⌜ (64 ≤ length (now line)) × (inRange (Instruction.Quarter op tile first second) ≡ true) ⌝ }
+    ensures { λ r. ⌜ Put 64 (now (line .entry)) 0 (now (line .exit)) r (spelling (Instruction.Quarter op tile first second)) ⌝ }
+{
+    let wide = op.wide;
+    let a = put_heading(line, b"mop4", op, tile);
+    let b = put_source(line, a, wide, first);
+    put_source(line, b, wide, second)
+}
+
+fn spell_zero(line: &mut [u8], mask: u8) -> usize
+    requires { ⌜ 64 ≤ length (now line) ⌝ }
+    ensures { λ r. ⌜ Put 64 (now (line .entry)) 0 (now (line .exit)) r (spelling (Instruction.Zero mask)) ⌝ }
+{
+    let a = put(line, 0, b"zero {");
+    let b = put_tiles(line, a, mask);
+    if b == 6 {
+        return put(line, b, b"}");
+    }
+    put(line, b, b" }")
+}
+
+// The tiles of a ZERO's mask, rising, behind the brace that stands before 6.
+fn put_tiles(line: &mut [u8], start: usize, mask: u8) -> usize
+    requires { ⌜ (64 ≤ length (now line)) × (start ≡ 6) ⌝ }
+    ensures { λ r. ⌜ Put 56 (now (line .entry)) start (now (line .exit)) r (shown (tilesOfMask mask)) ⌝ }
+{
+    let mut at = start;
+    let mut i: u32 = 0;
+    while i < 8 {
+        at = put_listed(line, at, mask, i);
+        i += 1;
+    }
+    at
+}
+
+// Tile i, if the mask has it; the first stands at 6.
+fn put_listed(line: &mut [u8], at: usize, mask: u8, i: u32) -> usize
+    requires { ⌜ (at + 8 ≤ length (now line)) × (i < 8) ⌝ }
+    ensures { λ r. ⌜ Put 7 (now (line .entry)) at (now (line .exit)) r (listed at mask i) ⌝ }
+{
+    if (mask >> i) % 2 == 0 {
+        return at;
+    }
+    if at == 6 {
+        return put_name(line, at, b" za", i, b'.', b'd');
+    }
+    put_name(line, at, b", za", i, b'.', b'd')
+}
+
+// What both families begin with: the mnemonic and the tile.
+fn put_heading(line: &mut [u8], stem: &[u8], op: Operation, tile: Tile) -> usize
+    requires { ⌜ (14 ≤ length (now line)) × (length (now stem) ≤ 4) × (tile .0 < 100) ⌝ }
+    ensures { λ r. ⌜ Put 14 (now (line .entry)) 0 (now (line .exit)) r (mnemonic (now (stem .entry)) op ++ ascii " " ++ tileName (op .wide) tile) ⌝ }
+{
+    let a = put_mnemonic(line, stem, op);
+    put_name(line, a, b" za", tile.0, b'.', tile_letter(op.wide))
+}
+
+fn put_mnemonic(line: &mut [u8], stem: &[u8], op: Operation) -> usize
+    requires { ⌜ (7 ≤ length (now line)) × (length (now stem) ≤ 4) ⌝ }
+    ensures { λ r. ⌜ Put 7 (now (line .entry)) 0 (now (line .exit)) r (mnemonic (now (stem .entry)) op) ⌝ }
+{
+    let a = put_signs(line, op.u0, op.u1);
+    let b = put(line, a, stem);
+    let subtract = op.subtract;
+    if subtract {
+        return put(line, b, b"s");
+    }
+    put(line, b, b"a")
+}
+
+fn put_signs(line: &mut [u8], u0: bool, u1: bool) -> usize
+    requires { ⌜ 2 ≤ length (now line) ⌝ }
+    ensures { λ r. ⌜ Put 2 (now (line .entry)) 0 (now (line .exit)) r (signs u0 u1) ⌝ }
+{
+    if u0 {
+        if u1 {
+            return put(line, 0, b"u");
+        }
+        return put(line, 0, b"us");
+    }
+    if u1 {
+        return put(line, 0, b"su");
+    }
+    put(line, 0, b"s")
+}
+
+fn put_predicates(line: &mut [u8], at: usize, pn: Predicate, pm: Predicate) -> usize
+    requires { ⌜ (at + 14 ≤ length (now line)) × (pn .0 < 100) × (pm .0 < 100) ⌝ }
+    ensures { λ r. ⌜ Put 14 (now (line .entry)) at (now (line .exit)) r (ascii ", " ++ predicateName pn ++ (ascii ", " ++ predicateName pm)) ⌝ }
+{
+    let a = put_name(line, at, b", p", pn.0, b'/', b'm');
+    put_name(line, a, b", p", pm.0, b'/', b'm')
+}
+
+fn put_vectors(line: &mut [u8], at: usize, wide: bool, zn: Vector, zm: Vector) -> usize
+    requires { ⌜ (at + 14 ≤ length (now line)) × (zn .0 < 100) × (zm .0 < 100) ⌝ }
+    ensures { λ r. ⌜ Put 14 (now (line .entry)) at (now (line .exit)) r (ascii ", " ++ vectorName wide (zn .0) ++ (ascii ", " ++ vectorName wide (zm .0))) ⌝ }
+{
+    let letter = source_letter(wide);
+    let a = put_name(line, at, b", z", zn.0, b'.', letter);
+    put_name(line, a, b", z", zm.0, b'.', letter)
+}
+
+fn put_source(line: &mut [u8], at: usize, wide: bool, s: Source) -> usize
+    requires { ⌜ (at + 17 ≤ length (now line)) × (register s < 31) ⌝ }
+    ensures { λ r. ⌜ Put 17 (now (line .entry)) at (now (line .exit)) r (ascii ", " ++ sourceName wide s) ⌝ }
+{
+    match s {
+        Source::One(v) => put_name(line, at, b", z", v.0, b'.', source_letter(wide)),
+        Source::Pair(v) => put_pair(line, at, wide, v),
+    }
+}
+
+fn put_pair(line: &mut [u8], at: usize, wide: bool, v: Vector) -> usize
+    requires { ⌜ (at + 17 ≤ length (now line)) × (v .0 < 31) ⌝ }
+    ensures { λ r. ⌜ Put 17 (now (line .entry)) at (now (line .exit)) r (ascii ", " ++ sourceName wide (Source.Pair v)) ⌝ }
+{
+    let letter = source_letter(wide);
+    let a = put_name(line, at, b", { z", v.0, b'.', letter);
+    let b = put_name(line, a, b"-z", v.0 + 1, b'.', letter);
+    put(line, b, b" }")
+}
+
+fn tile_letter(wide: bool) -> u8
+    ensures { λ r. ⌜ tileSuffix wide ≡ 46 ∷ r ∷ [] ⌝ }
+{
+    if wide { b'd' } else { b's' }
+}
+
+fn source_letter(wide: bool) -> u8
+    ensures { λ r. ⌜ sourceSuffix wide ≡ 46 ∷ r ∷ [] ⌝ }
+{
+    if wide { b'h' } else { b'b' }
+}
+
+// A register's name: what leads up to its number, the number, and a suffix of a mark and a letter.
+fn put_name(line: &mut [u8], at: usize, lead: &[u8], n: u32, mark: u8, letter: u8) -> usize
+    requires { ⌜ (at + length (now lead) + 4 ≤ length (now line)) × (n < 100) ⌝ }
+    ensures { λ r. ⌜ Put (length (now (lead .entry)) + 4) (now (line .entry)) at (now (line .exit)) r (now (lead .entry) ++ decimal n ++ (mark ∷ letter ∷ [])) ⌝ }
+{
+    let a = put(line, at, lead);
+    let b = put_decimal(line, a, n);
+    let suffix = [mark, letter];
+    put(line, b, &suffix)
+}
+
+fn put_decimal(line: &mut [u8], at: usize, n: u32) -> usize
+    requires { ⌜ (at + 2 ≤ length (now line)) × (n < 100) ⌝ }
+    ensures { λ r. ⌜ Put 2 (now (line .entry)) at (now (line .exit)) r (decimal n) ⌝ }
+{
+    if n < 10 {
+        let digit = [48 + n as u8];
+        return put(line, at, &digit);
+    }
+    let digits = [48 + (n / 10) as u8, 48 + (n % 10) as u8];
+    put(line, at, &digits)
+}
+
+fn put(line: &mut [u8], at: usize, text: &[u8]) -> usize
+    requires { ⌜ at + length (now text) ≤ length (now line) ⌝ }
+    ensures { λ r. ⌜ Put (length (now (text .entry))) (now (line .entry)) at (now (line .exit)) r (now (text .entry)) ⌝ }
+{
+    let mut i = 0;
+    while i < text.len() {
+        line[at + i] = text[i];
+        i += 1;
+    }
+    at + text.len()
+}

@@ -1,0 +1,13 @@
+-- `words::list_room` meets its contract. The law is given its type and level: found by unification, they would have
+-- antt count the list. Assumes nothing.
+use mathlib.Core.Path.{sym}
+use Prim.Native.Nat.{ℕ}
+use lib.ListN.{length-replicate}
+use Rattle.words.proofs.list_room.Statement.{statement}
+use Rattle.words.proofs.list_room.Tie as tie
+
+returns : tie.Need-returns
+returns c = sym (length-replicate {0} {A = ℕ} 1048576 0)
+
+pub list-room-spec : {M : Type 1} → statement M
+list-room-spec = tie.close (tie.spec returns)
