@@ -1,9 +1,11 @@
 // Which words are instructions, and which instruction each is: Arm's encoding table, both ways.
 mod decoder;
 mod encoder;
+mod numbers;
 
 pub use decoder::decode;
 pub use encoder::encode;
+pub use numbers::number;
 
 // Numbers of tiles, vectors and predicates: kinds that can't stand for one another.
 pub struct Tile(pub u32);
@@ -46,7 +48,7 @@ pub enum Instruction {
     Zero(u8),
 }
 
-// Why input is refused, in the order of the tests; `number` of specs/Refusals.antt numbers them.
+// Why input is refused, in the order of the tests; `number` gives each its number.
 pub enum Refusal {
     Flags,
     VectorLength,

@@ -4,14 +4,13 @@ ghost use mathlib.Core.Path.{_≡_};
 ghost use Prim.Native.Nat.{ℕ, _+_, _≤_};
 ghost use lib.ListN.{length};
 ghost use Rattle.words.specs.Tally.{Below};
-use isa::Refusal;
 use libc::STDIN_FILENO;
 use libc::STDOUT_FILENO;
 use text::Printed;
 
 const ALL_FEATURES: u32 = 7;
 
-const UNLISTED: u64 = 7;
+const UNLISTED: u32 = 7;
 
 // The list and each text must be shorter than these.
 const LIST_ROOM: usize = 1048576;
@@ -184,7 +183,7 @@ fn word_outcome(w: u32, listed: &[u8]) -> Outcome {
     let mut room = [0u8; TEXT_ROOM];
     let agrees = match text::print(ALL_FEATURES, w, &mut room) {
         Printed::Length(n) => text_agrees(w, first(&room, n), listed),
-        Printed::Refused(refusal) => refusal_agrees(w, number(refusal), listed),
+        Printed::Refused(refusal) => refusal_agrees(w, isa::number(refusal), listed),
     };
     if agrees {
         Outcome::Agreed
@@ -213,7 +212,7 @@ fn text_agrees(w: u32, printed: &[u8], listed: &[u8]) -> bool {
     false
 }
 
-fn refusal_agrees(w: u32, number: u64, listed: &[u8]) -> bool {
+fn refusal_agrees(w: u32, number: u32, listed: &[u8]) -> bool {
     if number == UNLISTED {
         if check::same(b"-", listed) {
             return true;
@@ -221,7 +220,7 @@ fn refusal_agrees(w: u32, number: u64, listed: &[u8]) -> bool {
     }
     io::print_hex(STDOUT_FILENO, w as u64, 8);
     io::write_all(STDOUT_FILENO, b": refused ");
-    io::print_decimal(STDOUT_FILENO, number);
+    io::print_decimal(STDOUT_FILENO, number as u64);
     write_listed(listed);
     false
 }
@@ -230,22 +229,4 @@ fn write_listed(listed: &[u8]) {
     io::write_all(STDOUT_FILENO, b"; list ");
     io::write_all(STDOUT_FILENO, listed);
     io::write_all(STDOUT_FILENO, b"\n");
-}
-
-// A refusal's number in document 01.
-fn number(refusal: Refusal) -> u64 {
-    match refusal {
-        Refusal::Flags => 1,
-        Refusal::VectorLength => 2,
-        Refusal::ZLength => 3,
-        Refusal::PLength => 4,
-        Refusal::ZaLength => 5,
-        Refusal::ListLength => 6,
-        Refusal::Unlisted => 7,
-        Refusal::FeatureOff => 8,
-        Refusal::StreamingOff => 9,
-        Refusal::ZaOff => 10,
-        Refusal::OutOfRange => 11,
-        Refusal::Room => 12,
-    }
 }
