@@ -30,7 +30,7 @@ long-enough i room line n e t h =
     (rw (l, e), rw (l, t, e))
 
 -- ---- the tests before the room's
-accepted-text : (flags w : ℕ) (i : Instruction) → decodeOf flags w ≡ Accepted i → textOf w ≡ spelling i
+pub accepted-text : (flags w : ℕ) (i : Instruction) → decodeOf flags w ≡ Accepted i → textOf w ≡ spelling i
 unfolding textOf
 accepted-text flags w i p = rw (decode-passed flags w i p .1)
 

@@ -2,4 +2,5 @@ pub mod Ascii
 pub mod Spelling
 pub mod Put
 pub mod Printing
+pub mod Claims
 pub mod Examples

@@ -1,0 +1,112 @@
+-- What document 01 asks of a print: the claim of specs/Claims.antt holds for every flags, word and room. Assumes nothing.
+use mathlib.Core.Path.{_≡_, refl, subst}
+use mathlib.Core.Bool.{Bool, true, false, not, cond}
+use mathlib.Core.Logic.{_↔_}
+use mathlib.Core.List.{List, _++_}
+use mathlib.Core.Option.{none, some}
+use Prim.Native.Nat.{ℕ, _≤_, _<_}
+use native.Mathlib.Omega.{arith}
+use lib.Dec.{eqb, ltb}
+use lib.ListN.{length, drop, length-append, length-drop}
+use lib.Seq.{take-append-seam, drop-append-seam}
+use borrow.Author.Tests.{ltb-true, ltb-false}
+use Rattle.isa.specs.Refusals.{number}
+use Rattle.isa.specs.Table.{allFlags}
+use Rattle.isa.specs.Answers.{describe, missing, absent, decodeOf}
+use Rattle.isa.specs.declared.Instruction.{Instruction}
+use Rattle.isa.specs.declared.Refusal.{Refusal}
+use Rattle.isa.specs.declared.Refusal.the-variants.{Flags, Unlisted, FeatureOff}
+use Rattle.isa.specs.declared.Decoded.{Decoded}
+use Rattle.isa.specs.declared.Decoded.the-variants.{Accepted, Refused as NotDecoded}
+use Rattle.isa.proofs.Answers.{decode-refused}
+use Rattle.text.specs.Spelling.{spelling}
+use Rattle.text.specs.Printing.{textOf, printedIn, filledWith, printedNumber, printedLength, roomAfter}
+use Rattle.text.specs.Claims.{numberIn, lengthIn, decodeNumber, Holds, Prints}
+use Rattle.text.proofs.Rooms.{accepted-text, print-accepted, room-accepted, print-refused, room-refused}
+use Rattle.text.proofs.Lengths.{Between, line-between}
+
+-- decode refuses with 1, 7 or 8: with a number that print gives nothing else
+decode-number : (flags w : ℕ) (r : Refusal) → decodeOf flags w ≡ NotDecoded r → (0 < number r) × (number r < 12)
+decode-number flags w r p = go (ltb allFlags flags) (absent (describe w)) (not (eqb (missing flags w) 0)) (decode-refused flags w r p)
+  where
+    at : {q : Refusal} → q ≡ r → (0 < number q) × (number q < 12) → (0 < number r) × (number r < 12)
+    at e h = subst (λ (q : Refusal). (0 < number q) × (number q < 12)) e h
+
+    go : (a b c : Bool) → cond a (some Flags) (cond b (some Unlisted) (cond c (some FeatureOff) none)) ≡ some r → (0 < number r) × (number r < 12)
+    go true b c q = let e : Flags ≡ r = cc in at e (omega arith, omega arith)
+    go false true c q = let e : Unlisted ≡ r = cc in at e (omega arith, omega arith)
+    go false false true q = let e : FeatureOff ≡ r = cc in at e (omega arith, omega arith)
+    go false false false q = let z : _≡_ {A = ℕ} 0 1 = cc in absurd (omega arith)
+
+-- the three outcomes, by decode's number, print's number, the length, and what the room then holds
+data Outcome (t room : List ℕ) : ℕ → ℕ → ℕ → List ℕ → Type 0 where
+  fits : length t ≤ length room → Between 1 63 t → Outcome t room 0 0 (length t) (t ++ drop (length t) room)
+  short : length room < length t → Outcome t room 0 12 0 room
+  refused : {k : ℕ} → 0 < k → k < 12 → Outcome t room k k 0 room
+
+module _ {t room : List ℕ} where
+  accepts : {d p n : ℕ} {after : List ℕ} → Outcome t room d p n after → (p ≡ 0) ↔ (d ≡ 0) × (length t ≤ length room)
+  accepts (fits h l) = (λ e. (refl, h), λ c. refl)
+  accepts (short h) = (λ e. absurd (omega arith), λ c. absurd (omega arith))
+  accepts (refused h l) = (λ e. absurd (omega arith), λ c. absurd (omega arith))
+
+  -- a number of decode's is print's, and print has it from decode alone
+  same : {d p n : ℕ} {after : List ℕ} (k : ℕ) → 0 < k → k < 12 → Outcome t room d p n after → (p ≡ k) ↔ (d ≡ k)
+  same k a b (fits h l) = (λ e. e, λ e. e)
+  same k a b (short h) = (λ e. absurd (omega arith), λ e. absurd (omega arith))
+  same k a b (refused h l) = (λ e. e, λ e. e)
+
+  gives-12 : {d p n : ℕ} {after : List ℕ} → Outcome t room d p n after → (p ≡ 12) ↔ (d ≡ 0) × (length room < length t)
+  gives-12 (fits h l) = (λ e. absurd (omega arith), λ c. absurd (omega arith))
+  gives-12 (short h) = (λ e. (refl, h), λ c. refl)
+  gives-12 (refused h l) = (λ e. absurd (omega arith), λ c. absurd (omega arith))
+
+  unchanged : {d p n : ℕ} {after : List ℕ} → Outcome t room d p n after → (p ≡ 0 → ⊥) → (after ≡ room) × (n ≡ 0)
+  unchanged (fits h l) z = absurd (z refl)
+  unchanged (short h) z = (refl, refl)
+  unchanged (refused h l) z = (refl, refl)
+
+  holds : {d p n : ℕ} {after : List ℕ} → Outcome t room d p n after → p ≡ 0 → Holds t n room after
+  holds (fits h l) e =
+      record {
+        whole = refl;
+        some = l .low;
+        most = l .high;
+        text = take-append-seam t (drop (length t) room);
+        rest = drop-append-seam t (drop (length t) room);
+        size = simp (length-append, length-drop) (omega arith);
+      }
+  holds (short h) e = absurd (omega arith)
+  holds (refused h l) e = absurd (omega arith)
+
+-- every print has one of them
+outcome : (flags w : ℕ) (room : List ℕ) → Outcome (textOf w) room (decodeNumber flags w) (numberIn flags w room) (lengthIn flags w room) (roomAfter flags w room)
+outcome flags w room = by-answer (decodeOf flags w) refl
+  where
+    by-room : (i : Instruction) (b : Bool) → ltb (length room) (length (spelling i)) ≡ b → Between 1 63 (spelling i)
+        → Outcome (spelling i) room 0 (printedNumber (printedIn i (length room))) (printedLength (printedIn i (length room))) (filledWith i room)
+    by-room i true q l = rw q (short (ltb-true (length room) (length (spelling i)) q))
+    by-room i false q l = rw q (fits (ltb-false (length room) (length (spelling i)) q) l)
+
+    by-answer : (a : Decoded) → decodeOf flags w ≡ a
+        → Outcome (textOf w) room (decodeNumber flags w) (numberIn flags w room) (lengthIn flags w room) (roomAfter flags w room)
+    by-answer (NotDecoded r) e =
+        let (h, l) = decode-number flags w r e in
+        rw (print-refused flags w (length room) r e, room-refused flags w room r e, e) (refused h l)
+    by-answer (Accepted i) e =
+        rw (print-accepted flags w (length room) i e, room-accepted flags w room i e, accepted-text flags w i e, e)
+        (by-room i (ltb (length room) (length (spelling i))) refl (line-between i))
+
+-- which number print answers, and what it leaves in the room
+pub prints : (flags w : ℕ) (room : List ℕ) → Prints flags w room
+prints flags w room =
+    let o = outcome flags w room in
+    record {
+      accepts = accepts o;
+      gives-1 = same 1 (omega arith) (omega arith) o;
+      gives-7 = same 7 (omega arith) (omega arith) o;
+      gives-8 = same 8 (omega arith) (omega arith) o;
+      gives-12 = gives-12 o;
+      refused = unchanged o;
+      printed = holds o;
+    }

@@ -1,0 +1,38 @@
+-- What document 01 asks of a print, in its numbers; proofs/Theorems.antt proves it for every flags, word and room.
+use mathlib.Core.Path.{_≡_}
+use mathlib.Core.Logic.{_↔_}
+use mathlib.Core.List.{List}
+use Prim.Native.Nat.{ℕ, _≤_, _<_}
+use lib.ListN.{length, take, drop}
+use Rattle.isa.specs.Answers.{decodeOf, decodedNumber}
+use Rattle.text.specs.Spelling.{Text}
+use Rattle.text.specs.Printing.{textOf, printOf, printedNumber, printedLength, roomAfter}
+
+-- the number that print answers, and the length; the number that decode answers to the same flags and word
+abbrev pub numberIn : ℕ → ℕ → List ℕ → ℕ
+numberIn flags w room = printedNumber (printOf flags w (length room))
+
+abbrev pub lengthIn : ℕ → ℕ → List ℕ → ℕ
+lengthIn flags w room = printedLength (printOf flags w (length room))
+
+abbrev pub decodeNumber : ℕ → ℕ → ℕ
+decodeNumber flags w = decodedNumber (decodeOf flags w)
+
+-- a text of n bytes is at the start of a room, and the bytes after it are as they were
+pub record Holds (t : Text) (n : ℕ) (before after : List ℕ) : Type 0 where
+  pub whole : n ≡ length t
+  pub some : 1 ≤ n
+  pub most : n ≤ 63
+  pub text : take n after ≡ t
+  pub rest : drop n after ≡ drop n before
+  pub size : length after ≡ length before
+
+-- which number print answers, and what it leaves in the room
+pub record Prints (flags w : ℕ) (room : List ℕ) : Type 0 where
+  pub accepts : (numberIn flags w room ≡ 0) ↔ (decodeNumber flags w ≡ 0) × (length (textOf w) ≤ length room)
+  pub gives-1 : (numberIn flags w room ≡ 1) ↔ (decodeNumber flags w ≡ 1)
+  pub gives-7 : (numberIn flags w room ≡ 7) ↔ (decodeNumber flags w ≡ 7)
+  pub gives-8 : (numberIn flags w room ≡ 8) ↔ (decodeNumber flags w ≡ 8)
+  pub gives-12 : (numberIn flags w room ≡ 12) ↔ (decodeNumber flags w ≡ 0) × (length room < length (textOf w))
+  pub refused : (numberIn flags w room ≡ 0 → ⊥) → (roomAfter flags w room ≡ room) × (lengthIn flags w room ≡ 0)
+  pub printed : numberIn flags w room ≡ 0 → Holds (textOf w) (lengthIn flags w room) room (roomAfter flags w room)
