@@ -10,7 +10,13 @@ use text::Printed;
 
 const ALL_FEATURES: u32 = 7;
 
+// Document 01's numbers of the refusals that a word of the list can get.
 const UNLISTED: u32 = 7;
+
+const ROOM_TOO_SHORT: u32 = 12;
+
+// What a room holds before it is printed into.
+const FILL: u8 = 0x5A;
 
 // The list and each text must be shorter than these.
 const LIST_ROOM: usize = 1048576;
@@ -20,7 +26,8 @@ const TEXT_ROOM: usize = 64;
 // Where a line's text starts.
 const TEXT_AT: usize = 9;
 
-// How many lines have a word, at how many of these print agrees, and how many others are no comments.
+// How many lines have a word, at how many of these print agrees, and how many lines are malformed: neither a word with
+// its text nor a comment.
 pub struct Tally {
     pub lines: u64,
     pub agreed: u64,
@@ -179,17 +186,97 @@ fn digit_of(byte: u8) -> u32 {
     }
 }
 
+// Print agrees if it does in a room of 64 bytes, in one of the text's length, and in one a byte shorter.
 fn word_outcome(w: u32, listed: &[u8]) -> Outcome {
-    let mut room = [0u8; TEXT_ROOM];
+    let mut room = [FILL; TEXT_ROOM];
     let agrees = match text::print(ALL_FEATURES, w, &mut room) {
-        Printed::Length(n) => text_agrees(w, first(&room, n), listed),
-        Printed::Refused(refusal) => refusal_agrees(w, isa::number(refusal), listed),
+        Printed::Length(n) => text_agrees(w, n, &room, listed),
+        Printed::Refused(refusal) => refusal_agrees(w, isa::number(refusal), &room, listed),
     };
     if agrees {
         Outcome::Agreed
     } else {
         Outcome::Disagreed
     }
+}
+
+// Whether n bytes printed into room are what is listed, and print keeps to rooms of n bytes and of one less.
+fn text_agrees(w: u32, n: usize, room: &[u8], listed: &[u8]) -> bool {
+    if !holds(room, n, listed) {
+        return disagrees(w, b"print ", first(room, n), listed);
+    }
+    if !exact_room_agrees(w, n, listed) {
+        return disagrees(w, b"not so in a room of its length: ", listed, listed);
+    }
+    if !short_room_refused(w, n) {
+        return disagrees(w, b"not refused in a room a byte shorter: ", listed, listed);
+    }
+    true
+}
+
+// Whether room has a listed text in its first n bytes, and the bytes after it as they were. The mark of an unlisted
+// word is no text.
+fn holds(room: &[u8], n: usize, listed: &[u8]) -> bool {
+    if marks_unlisted(listed) {
+        return false;
+    }
+    if n > room.len() {
+        return false;
+    }
+    if !check::same(&room[0..n], listed) {
+        return false;
+    }
+    untouched(&room[n..])
+}
+
+// Whether a room of n bytes gets the listed text too.
+fn exact_room_agrees(w: u32, n: usize, listed: &[u8]) -> bool {
+    let mut room = [FILL; TEXT_ROOM];
+    match print_into(w, n, &mut room) {
+        Printed::Length(m) => holds(&room, m, listed),
+        Printed::Refused(_) => false,
+    }
+}
+
+// Whether a room of n - 1 bytes is refused as too short, and left as it was.
+fn short_room_refused(w: u32, n: usize) -> bool {
+    if n == 0 {
+        return false;
+    }
+    let mut room = [FILL; TEXT_ROOM];
+    match print_into(w, n - 1, &mut room) {
+        Printed::Length(_) => false,
+        Printed::Refused(refusal) => {
+            if isa::number(refusal) != ROOM_TOO_SHORT {
+                return false;
+            }
+            untouched(&room)
+        }
+    }
+}
+
+// Prints into the first n bytes of room, or into all if there are fewer.
+fn print_into(w: u32, n: usize, room: &mut [u8]) -> Printed {
+    if n < room.len() {
+        return text::print(ALL_FEATURES, w, &mut room[0..n]);
+    }
+    text::print(ALL_FEATURES, w, room)
+}
+
+// Whether every byte is as the room was filled.
+fn untouched(bytes: &[u8]) -> bool {
+    let mut i = 0;
+    while i < bytes.len() {
+        if bytes[i] != FILL {
+            return false;
+        }
+        i += 1;
+    }
+    true
+}
+
+fn marks_unlisted(listed: &[u8]) -> bool {
+    check::same(b"-", listed)
 }
 
 // The first n bytes, or all if there are fewer.
@@ -200,27 +287,28 @@ fn first(bytes: &[u8], n: usize) -> &[u8] {
     bytes
 }
 
-// Whether what print gave is what is listed; if not, a line shows both.
-fn text_agrees(w: u32, printed: &[u8], listed: &[u8]) -> bool {
-    if check::same(printed, listed) {
-        return true;
-    }
-    io::print_hex(STDOUT_FILENO, w as u64, 8);
-    io::write_all(STDOUT_FILENO, b": print ");
-    io::write_all(STDOUT_FILENO, printed);
-    write_listed(listed);
-    false
-}
-
-fn refusal_agrees(w: u32, number: u32, listed: &[u8]) -> bool {
+// Whether a refusal is what is listed, and left room as it was; if not, a line shows both.
+fn refusal_agrees(w: u32, number: u32, room: &[u8], listed: &[u8]) -> bool {
     if number == UNLISTED {
-        if check::same(b"-", listed) {
-            return true;
+        if marks_unlisted(listed) {
+            if untouched(room) {
+                return true;
+            }
         }
     }
     io::print_hex(STDOUT_FILENO, w as u64, 8);
     io::write_all(STDOUT_FILENO, b": refused ");
     io::print_decimal(STDOUT_FILENO, number as u64);
+    write_listed(listed);
+    false
+}
+
+// A line that shows what print did with a word, and what is listed; the answer is always false.
+fn disagrees(w: u32, how: &[u8], text: &[u8], listed: &[u8]) -> bool {
+    io::print_hex(STDOUT_FILENO, w as u64, 8);
+    io::write_all(STDOUT_FILENO, b": ");
+    io::write_all(STDOUT_FILENO, how);
+    io::write_all(STDOUT_FILENO, text);
     write_listed(listed);
     false
 }
