@@ -16,7 +16,8 @@ use Rattle.isa.specs.declared.Decoded.the-variants.{Accepted, Refused as NotDec
 use Rattle.isa.proofs.Refusals.{failed-before, passed-before}
 use Rattle.isa.proofs.Answers.{decode-refused, decode-passed}
 use Rattle.text.specs.Spelling.{spelling}
-use Rattle.text.specs.Printing.{textOf, printed, filled, printTests, printOf, roomAfter, printedIn, filledWith}
+use Rattle.text.specs.Put.{printedIn, filledWith}
+use Rattle.text.specs.Printing.{textOf, printed, filled, printTests, printOf, roomAfter}
 use Rattle.text.specs.declared.Printed.the-variants.{Length, Refused}
 
 -- ---- the text fits the room, or does not

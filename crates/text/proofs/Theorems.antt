@@ -20,7 +20,8 @@ use Rattle.isa.specs.declared.Decoded.{Decoded}
 use Rattle.isa.specs.declared.Decoded.the-variants.{Accepted, Refused as NotDecoded}
 use Rattle.isa.proofs.Answers.{decode-refused}
 use Rattle.text.specs.Spelling.{spelling}
-use Rattle.text.specs.Printing.{textOf, printedIn, filledWith, printedNumber, printedLength, roomAfter}
+use Rattle.text.specs.Put.{printedIn, filledWith}
+use Rattle.text.specs.Printing.{textOf, printedNumber, printedLength, roomAfter}
 use Rattle.text.specs.Claims.{numberIn, lengthIn, decodeNumber, Holds, Prints}
 use Rattle.text.proofs.Rooms.{accepted-text, print-accepted, room-accepted, print-refused, room-refused}
 use Rattle.text.proofs.Lengths.{Between, line-between}

@@ -1,5 +1,4 @@
 -- What print answers and what it leaves in the room (document 01, "Text" and "Refusal numbers").
-use mathlib.Core.Bool.{cond}
 use mathlib.Core.List.{List, [], _∷_, _++_}
 use mathlib.Core.Option.{Option, none, some}
 use Prim.Native.Nat.{ℕ}
@@ -50,10 +49,3 @@ printedNumber (Refused r) = number r
 abbrev pub printedLength : Printed → ℕ
 printedLength (Length n) = n
 printedLength (Refused r) = 0
-
--- the same for a word that passed 1, 7 and 8: its instruction alone decides
-abbrev pub printedIn : Instruction → ℕ → Printed
-printedIn i room = cond (ltb room (length (spelling i))) (Refused Room) (Length (length (spelling i)))
-
-abbrev pub filledWith : Instruction → List ℕ → List ℕ
-filledWith i room = cond (ltb (length room) (length (spelling i))) room (spelling i ++ drop (length (spelling i)) room)

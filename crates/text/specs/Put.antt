@@ -3,10 +3,14 @@ use mathlib.Core.Path.{_≡_}
 use mathlib.Core.Bool.{true, cond}
 use mathlib.Core.List.{List, [], _∷_, _++_}
 use Prim.Native.Nat.{ℕ, _+_, _/_, _%_, _^_, _≤_}
-use lib.Dec.{eqb}
-use lib.ListN.{length, take}
+use lib.Dec.{eqb, ltb}
+use lib.ListN.{length, take, drop}
+use Rattle.isa.specs.declared.Instruction.{Instruction}
+use Rattle.isa.specs.declared.Refusal.the-variants.{Room}
 use Rattle.text.specs.Ascii.{ascii}
-use Rattle.text.specs.Spelling.{Text, tileName, further}
+use Rattle.text.specs.Spelling.{Text, tileName, further, spelling}
+use Rattle.text.specs.declared.Printed.{Printed}
+use Rattle.text.specs.declared.Printed.the-variants.{Length, Refused}
 
 -- t, at most so many bytes, stands on the line from `at` to `next`; what stood before it is as it was
 pub record Put (most : ℕ) (before : List ℕ) (at : ℕ) (line : List ℕ) (next : ℕ) (t : Text) : Type 0 where
@@ -19,6 +23,13 @@ abbrev pub shown : List Text → Text
 shown [] = []
 shown (t ∷ ts) = ascii " " ++ t ++ further ts
 
--- tile i as it stands there, if the mask has it; the first stands at 6
+-- tile i as it stands there, if the mask has it; the first stands at 6, behind `zero {`
 abbrev pub listed : ℕ → ℕ → ℕ → Text
 listed at m i = cond (eqb (m / 2 ^ i % 2) 0) [] (cond (eqb at 6) (ascii " ") (ascii ", ") ++ tileName true (record { 0 = i }))
+
+-- what print answers and leaves: for a word that passed 1, 7 and 8, its instruction alone decides
+abbrev pub printedIn : Instruction → ℕ → Printed
+printedIn i room = cond (ltb room (length (spelling i))) (Refused Room) (Length (length (spelling i)))
+
+abbrev pub filledWith : Instruction → List ℕ → List ℕ
+filledWith i room = cond (ltb (length room) (length (spelling i))) room (spelling i ++ drop (length (spelling i)) room)

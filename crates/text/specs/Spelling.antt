@@ -26,11 +26,11 @@ decimal n = cond (ltb n 10) (digit n ∷ []) (digit (n / 10) ∷ digit (n % 10) 
 abbrev pub signs : Bool → Bool → Text
 signs u0 u1 = cond u0 (cond u1 (ascii "u") (ascii "us")) (cond u1 (ascii "su") (ascii "s"))
 
-abbrev pub direction : Bool → Text
-direction subtract = cond subtract (ascii "s") (ascii "a")
+abbrev pub addOrSubtract : Bool → Text
+addOrSubtract subtract = cond subtract (ascii "s") (ascii "a")
 
 abbrev pub mnemonic : Text → Operation → Text
-mnemonic stem op = signs (op .u0) (op .u1) ++ stem ++ direction (op .subtract)
+mnemonic stem op = signs (op .u0) (op .u1) ++ stem ++ addOrSubtract (op .subtract)
 
 -- ---- operands; a tile's elements are four times as wide as its sources'
 abbrev pub tileSuffix : Bool → Text
@@ -52,11 +52,12 @@ abbrev pub sourceName : Bool → Source → Text
 sourceName wide (One v) = vectorName wide (v .0)
 sourceName wide (Pair v) = ascii "{ " ++ vectorName wide (v .0) ++ ascii "-" ++ vectorName wide (v .0 + 1) ++ ascii " }"
 
--- texts with a comma and a space between each two
+-- texts, each with a comma and a space before it
 abbrev pub further : List Text → Text
 further [] = []
 further (t ∷ ts) = ascii ", " ++ t ++ further ts
 
+-- texts with a comma and a space between each two
 abbrev pub separated : List Text → Text
 separated [] = []
 separated (t ∷ ts) = t ++ further ts

@@ -7,7 +7,8 @@ ghost use mathlib.Core.List.{_++_};
 ghost use Prim.Native.Nat.{_≤_};
 ghost use lib.ListN.{length, take, drop};
 ghost use Rattle.isa.specs.Table.{inRange};
-ghost use Rattle.text.specs.Printing.{printOf, roomAfter, printedIn, filledWith};
+ghost use Rattle.text.specs.Printing.{printOf, roomAfter};
+ghost use Rattle.text.specs.Put.{printedIn, filledWith};
 use isa::Decoded;
 use isa::Instruction;
 use isa::Refusal;
@@ -44,6 +45,7 @@ fn print_line(i: Instruction, room: &mut [u8]) -> Printed
     Printed::Length(n)
 }
 
+// The first n bytes of text to the start of room.
 fn copy(text: &[u8], n: usize, room: &mut [u8])
     requires { ⌜ (n ≤ length (now text)) × (n ≤ length (now room)) ⌝ }
     ensures { λ _. ⌜ now (room .exit) ≡ take n (now (text .entry)) ++ drop n (now (room .entry)) ⌝ }

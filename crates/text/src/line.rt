@@ -15,8 +15,11 @@ use isa::Source;
 use isa::Tile;
 use isa::Vector;
 
+// Where ZERO's first tile goes: the length of `zero {`.
+const FIRST_TILE_AT: usize = 6;
+
 // The line of an instruction, at the start of line.
-pub fn spell(i: Instruction, line: &mut [u8]) -> usize
+pub(crate) fn spell(i: Instruction, line: &mut [u8]) -> usize
     requires { ⌜ (64 ≤ length (now line)) × (inRange i ≡ true) ⌝ }
     ensures { λ r. ⌜ Put 64 (now (line .entry)) 0 (now (line .exit)) r (spelling i) ⌝ }
 {
@@ -39,6 +42,7 @@ pub fn spell(i: Instruction, line: &mut [u8]) -> usize
     }
 }
 
+// Mnemonic, tile, two predicates and two vectors.
 fn spell_predicated(
     line: &mut [u8],
     op: Operation,
@@ -57,6 +61,7 @@ fn spell_predicated(
     put_vectors(line, b, wide, zn, zm)
 }
 
+// Mnemonic, tile and two sources, each a register or a pair.
 fn spell_quarter(line: &mut [u8], op: Operation, tile: Tile, first: Source, second: Source) -> usize
     requires { ⌜ (64 ≤ length (now line)) × (inRange (Instruction.Quarter op tile first second) ≡ true) ⌝ }
     ensures { λ r. ⌜ Put 64 (now (line .entry)) 0 (now (line .exit)) r (spelling (Instruction.Quarter op tile first second)) ⌝ }
@@ -67,13 +72,14 @@ fn spell_quarter(line: &mut [u8], op: Operation, tile: Tile, first: Source, seco
     put_source(line, b, wide, second)
 }
 
+// The tiles between braces; with none, nothing stands between them.
 fn spell_zero(line: &mut [u8], mask: u8) -> usize
     requires { ⌜ 64 ≤ length (now line) ⌝ }
     ensures { λ r. ⌜ Put 64 (now (line .entry)) 0 (now (line .exit)) r (spelling (Instruction.Zero mask)) ⌝ }
 {
     let a = put(line, 0, b"zero {");
     let b = put_tiles(line, a, mask);
-    if b == 6 {
+    if b == FIRST_TILE_AT {
         return put(line, b, b"}");
     }
     put(line, b, b" }")
@@ -101,7 +107,7 @@ fn put_listed(line: &mut [u8], at: usize, mask: u8, i: u32) -> usize
     if (mask >> i) % 2 == 0 {
         return at;
     }
-    if at == 6 {
+    if at == FIRST_TILE_AT {
         return put_name(line, at, b" za", i, b'.', b'd');
     }
     put_name(line, at, b", za", i, b'.', b'd')
@@ -116,6 +122,7 @@ fn put_heading(line: &mut [u8], stem: &[u8], op: Operation, tile: Tile) -> usize
     put_name(line, a, b" za", tile.0, b'.', tile_letter(op.wide))
 }
 
+// Which sources are unsigned, the family's stem, and a to add or s to subtract.
 fn put_mnemonic(line: &mut [u8], stem: &[u8], op: Operation) -> usize
     requires { ⌜ (7 ≤ length (now line)) × (length (now stem) ≤ 4) ⌝ }
     ensures { λ r. ⌜ Put 7 (now (line .entry)) 0 (now (line .exit)) r (mnemonic (now (stem .entry)) op) ⌝ }
@@ -129,6 +136,7 @@ fn put_mnemonic(line: &mut [u8], stem: &[u8], op: Operation) -> usize
     put(line, b, b"a")
 }
 
+// u for an unsigned source and s for a signed one; two of a kind are written once.
 fn put_signs(line: &mut [u8], u0: bool, u1: bool) -> usize
     requires { ⌜ 2 ≤ length (now line) ⌝ }
     ensures { λ r. ⌜ Put 2 (now (line .entry)) 0 (now (line .exit)) r (signs u0 u1) ⌝ }
@@ -145,6 +153,7 @@ fn put_signs(line: &mut [u8], u0: bool, u1: bool) -> usize
     put(line, 0, b"s")
 }
 
+// Both predicates, each behind a comma.
 fn put_predicates(line: &mut [u8], at: usize, pn: Predicate, pm: Predicate) -> usize
     requires { ⌜ (at + 14 ≤ length (now line)) × (pn .0 < 100) × (pm .0 < 100) ⌝ }
     ensures { λ r. ⌜ Put 14 (now (line .entry)) at (now (line .exit)) r (ascii ", " ++ predicateName pn ++ (ascii ", " ++ predicateName pm)) ⌝ }
@@ -153,6 +162,7 @@ fn put_predicates(line: &mut [u8], at: usize, pn: Predicate, pm: Predicate) -> u
     put_name(line, a, b", p", pm.0, b'/', b'm')
 }
 
+// Both vectors, each behind a comma.
 fn put_vectors(line: &mut [u8], at: usize, wide: bool, zn: Vector, zm: Vector) -> usize
     requires { ⌜ (at + 14 ≤ length (now line)) × (zn .0 < 100) × (zm .0 < 100) ⌝ }
     ensures { λ r. ⌜ Put 14 (now (line .entry)) at (now (line .exit)) r (ascii ", " ++ vectorName wide (zn .0) ++ (ascii ", " ++ vectorName wide (zm .0))) ⌝ }
@@ -162,6 +172,7 @@ fn put_vectors(line: &mut [u8], at: usize, wide: bool, zn: Vector, zm: Vector) -
     put_name(line, a, b", z", zm.0, b'.', letter)
 }
 
+// A quarter-tile source behind a comma.
 fn put_source(line: &mut [u8], at: usize, wide: bool, s: Source) -> usize
     requires { ⌜ (at + 17 ≤ length (now line)) × (register s < 31) ⌝ }
     ensures { λ r. ⌜ Put 17 (now (line .entry)) at (now (line .exit)) r (ascii ", " ++ sourceName wide s) ⌝ }
@@ -172,6 +183,7 @@ fn put_source(line: &mut [u8], at: usize, wide: bool, s: Source) -> usize
     }
 }
 
+// A pair by both its registers, in braces.
 fn put_pair(line: &mut [u8], at: usize, wide: bool, v: Vector) -> usize
     requires { ⌜ (at + 17 ≤ length (now line)) × (v .0 < 31) ⌝ }
     ensures { λ r. ⌜ Put 17 (now (line .entry)) at (now (line .exit)) r (ascii ", " ++ sourceName wide (Source.Pair v)) ⌝ }
@@ -182,12 +194,14 @@ fn put_pair(line: &mut [u8], at: usize, wide: bool, v: Vector) -> usize
     put(line, b, b" }")
 }
 
+// The suffix of a tile is a full stop and this letter.
 fn tile_letter(wide: bool) -> u8
     ensures { λ r. ⌜ tileSuffix wide ≡ 46 ∷ r ∷ [] ⌝ }
 {
     if wide { b'd' } else { b's' }
 }
 
+// The suffix of a source is a full stop and this letter: its elements are a quarter as wide as the tile's.
 fn source_letter(wide: bool) -> u8
     ensures { λ r. ⌜ sourceSuffix wide ≡ 46 ∷ r ∷ [] ⌝ }
 {
@@ -205,18 +219,20 @@ fn put_name(line: &mut [u8], at: usize, lead: &[u8], n: u32, mark: u8, letter: u
     put(line, b, &suffix)
 }
 
+// A number below 100, without leading zeros.
 fn put_decimal(line: &mut [u8], at: usize, n: u32) -> usize
     requires { ⌜ (at + 2 ≤ length (now line)) × (n < 100) ⌝ }
     ensures { λ r. ⌜ Put 2 (now (line .entry)) at (now (line .exit)) r (decimal n) ⌝ }
 {
     if n < 10 {
-        let digit = [48 + n as u8];
+        let digit = [b'0' + n as u8];
         return put(line, at, &digit);
     }
-    let digits = [48 + (n / 10) as u8, 48 + (n % 10) as u8];
+    let digits = [b'0' + (n / 10) as u8, b'0' + (n % 10) as u8];
     put(line, at, &digits)
 }
 
+// All bytes of text, in turn.
 fn put(line: &mut [u8], at: usize, text: &[u8]) -> usize
     requires { ⌜ at + length (now text) ≤ length (now line) ⌝ }
     ensures { λ r. ⌜ Put (length (now (text .entry))) (now (line .entry)) at (now (line .exit)) r (now (text .entry)) ⌝ }
