@@ -1,4 +1,4 @@
--- What putting a text on a line leaves: the words of the printer's own contracts.
+-- What putting a text on a line leaves, and what print does with the line: the words of its own contracts.
 use mathlib.Core.Path.{_≡_}
 use mathlib.Core.Bool.{true, cond}
 use mathlib.Core.List.{List, [], _∷_, _++_}
@@ -23,9 +23,13 @@ abbrev pub shown : List Text → Text
 shown [] = []
 shown (t ∷ ts) = ascii " " ++ t ++ further ts
 
--- tile i as it stands there, if the mask has it; the first stands at 6, behind `zero {`
+-- where the first stands: behind `zero {`
+abbrev pub firstTileAt : ℕ
+firstTileAt = length (ascii "zero {")
+
+-- tile i as it stands there, if the mask has it
 abbrev pub listed : ℕ → ℕ → ℕ → Text
-listed at m i = cond (eqb (m / 2 ^ i % 2) 0) [] (cond (eqb at 6) (ascii " ") (ascii ", ") ++ tileName true (record { 0 = i }))
+listed at m i = cond (eqb (m / 2 ^ i % 2) 0) [] (cond (eqb at firstTileAt) (ascii " ") (ascii ", ") ++ tileName true (record { 0 = i }))
 
 -- what print answers and leaves: for a word that passed 1, 7 and 8, its instruction alone decides
 abbrev pub printedIn : Instruction → ℕ → Printed

@@ -15,7 +15,7 @@ use Rattle.text.specs.Ascii.{ascii}
 abbrev pub Text : Type 0
 Text = List ℕ
 
--- ---- numbers: a number below 100, as every register's is
+-- ---- numbers: a number below 100, as every register's is; 48 is the code of the digit 0
 abbrev pub digit : ℕ → ℕ
 digit n = 48 + n
 

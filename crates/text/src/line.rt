@@ -7,7 +7,7 @@ ghost use lib.ListN.{length};
 ghost use Rattle.isa.specs.Table.{inRange, register};
 ghost use Rattle.text.specs.Ascii.{ascii};
 ghost use Rattle.text.specs.Spelling.{spelling, tilesOfMask, decimal, signs, mnemonic, tileName, predicateName, vectorName, tileSuffix, sourceSuffix, sourceName};
-ghost use Rattle.text.specs.Put.{Put, listed, shown};
+ghost use Rattle.text.specs.Put.{Put, firstTileAt, listed, shown};
 use isa::Instruction;
 use isa::Operation;
 use isa::Predicate;
@@ -85,9 +85,9 @@ fn spell_zero(line: &mut [u8], mask: u8) -> usize
     put(line, b, b" }")
 }
 
-// The tiles of a ZERO's mask, rising, behind the brace that stands before 6.
+// The tiles of a ZERO's mask, rising, behind the opening brace.
 fn put_tiles(line: &mut [u8], start: usize, mask: u8) -> usize
-    requires { ⌜ (64 ≤ length (now line)) × (start ≡ 6) ⌝ }
+    requires { ⌜ (64 ≤ length (now line)) × (start ≡ firstTileAt) ⌝ }
     ensures { λ r. ⌜ Put 56 (now (line .entry)) start (now (line .exit)) r (shown (tilesOfMask mask)) ⌝ }
 {
     let mut at = start;
@@ -99,7 +99,7 @@ fn put_tiles(line: &mut [u8], start: usize, mask: u8) -> usize
     at
 }
 
-// Tile i, if the mask has it; the first stands at 6.
+// Tile i, if the mask has it; the first has no comma before it.
 fn put_listed(line: &mut [u8], at: usize, mask: u8, i: u32) -> usize
     requires { ⌜ (at + 8 ≤ length (now line)) × (i < 8) ⌝ }
     ensures { λ r. ⌜ Put 7 (now (line .entry)) at (now (line .exit)) r (listed at mask i) ⌝ }
@@ -196,14 +196,14 @@ fn put_pair(line: &mut [u8], at: usize, wide: bool, v: Vector) -> usize
 
 // The suffix of a tile is a full stop and this letter.
 fn tile_letter(wide: bool) -> u8
-    ensures { λ r. ⌜ tileSuffix wide ≡ 46 ∷ r ∷ [] ⌝ }
+    ensures { λ r. ⌜ tileSuffix wide ≡ ascii "." ++ (r ∷ []) ⌝ }
 {
     if wide { b'd' } else { b's' }
 }
 
 // The suffix of a source is a full stop and this letter: its elements are a quarter as wide as the tile's.
 fn source_letter(wide: bool) -> u8
-    ensures { λ r. ⌜ sourceSuffix wide ≡ 46 ∷ r ∷ [] ⌝ }
+    ensures { λ r. ⌜ sourceSuffix wide ≡ ascii "." ++ (r ∷ []) ⌝ }
 {
     if wide { b'h' } else { b'b' }
 }

@@ -13,7 +13,7 @@ returns : tie.Need-returns
 returns c =
     let a = c .before .before .before .before .before .before .before .before .before .before .before .before .args in
     put-as (c .before .before .before .before .before .before .before .before .put-mnemonic .ensures then c .before .before .put-name .ensures)
-    (rw (c .before .before .before .tile-letter .ensures) (heading-text (mnemonic (a .stem .now) (a .op)) (ascii "za" ++ decimal (a .tile .0) ++ (46 ∷ c .before .before .before .tile-letter .result ∷ []))))
+    (rw (c .before .before .before .tile-letter .ensures) (heading-text (mnemonic (a .stem .now) (a .op)) (ascii "za" ++ decimal (a .tile .0) ++ (ascii "." ++ (c .before .before .before .tile-letter .result ∷ [])))))
     (omega arith)
 
 pub put-heading-spec : {M : Type 1} → statement M

@@ -1,4 +1,4 @@
--- `text::line::put_mnemonic` meets its contract: signs, stem and direction one after the other. Assumes nothing.
+-- `text::line::put_mnemonic` meets its contract: signs, stem and the letter of add or subtract one after the other. Assumes nothing.
 use Rattle.text.proofs.Puts.{_then_, put-as}
 use borrow.Author.Needs.{needs}
 use native.Mathlib.Omega.{arith}
