@@ -8,7 +8,7 @@ use Rattle.isa.specs.Answers.{decodeOf, decodedNumber}
 use Rattle.text.specs.Spelling.{Text}
 use Rattle.text.specs.Printing.{textOf, printOf, printedNumber, printedLength, roomAfter}
 
--- the number that print answers, and the length; the number that decode answers to the same flags and word
+-- print's number and length for a room, and decode's number
 abbrev pub numberIn : ℕ → ℕ → List ℕ → ℕ
 numberIn flags w room = printedNumber (printOf flags w (length room))
 
