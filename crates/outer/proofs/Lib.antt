@@ -1,0 +1,7 @@
+pub mod Sizes
+pub mod Signed
+pub mod Products
+pub mod Bounds
+pub mod Progress
+pub mod Rows
+pub mod Negation

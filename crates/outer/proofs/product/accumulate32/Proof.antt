@@ -1,0 +1,22 @@
+-- `outer::product::accumulate32` meets its contract. Assumes nothing.
+use mathlib.Core.Path.{ap, _∙_}
+use lib.Dec.{lit<, lit≤}
+use mir.Syntax.{w32}
+use Rattle.storage.specs.Modulo.{plus}
+use Rattle.outer.proofs.Signed.{Factors, product-fits, product-negatable, negation-fits, product-small, negated-small, product-directed, negated-directed}
+use Rattle.outer.proofs.product.accumulate32.Statement.{statement}
+use Rattle.outer.proofs.product.accumulate32.Tie as tie
+
+factors : (c : tie.Start) → Factors w32 256 0x20000 (c .args .x) (c .args .y)
+factors c = record { left = c .pre .0; right = c .pre .1; bound = lit< tt; room = lit≤ tt }
+
+pub accumulate32-spec : {M : Type 1} → statement M
+accumulate32-spec =
+    tie.close
+    (tie.spec
+    (λ c. product-fits (factors c))
+    (λ c. negation-fits (product-negatable (factors (c .before))))
+    (λ c κs. negated-small (factors (c .before)))
+    (λ c. c .add-signed32 .ensures ∙ ap (plus 4 _) (negated-directed (factors (c .before .before)) (c .before .if1 .taken)))
+    (λ c κs. product-small (factors (c .before)))
+    (λ c. c .add-signed322 .ensures ∙ ap (plus 4 _) (product-directed (factors (c .before .before)) (c .before .if1 .left))))

@@ -1,0 +1,23 @@
+-- `outer::product::read8` meets its contract: an unsigned element and the lower half are as they are, the upper half is less 256.
+-- Assumes nothing.
+use borrow.Author.Needs.{needs}
+use lib.Dec.{lit≤}
+use mir.Syntax.{w32}
+use Rattle.outer.proofs.Signed.{Narrow, high-fits, read-unsigned, read-low, read-high}
+use Rattle.outer.proofs.product.read8.Statement.{statement}
+use Rattle.outer.proofs.product.read8.Tie as tie
+
+narrow : (c : tie.Start) → Narrow 1 w32 (c .args .b)
+narrow c = record { below = c .fits .b .fits; wide = lit≤ tt }
+
+pub read8-spec : {M : Type 1} → statement M
+read8-spec =
+    tie.close
+    (tie.spec
+    (λ c. search needs)
+    (λ c. read-unsigned (narrow (c .before)) (c .if1 .taken))
+    (λ c. search needs)
+    (λ c. search needs)
+    (λ c. high-fits (narrow (c .before .before)))
+    (λ c. read-low (narrow (c .before .before)) (c .before .if1 .left) (c .if2 .taken))
+    (λ c. read-high (narrow (c .before .before)) (c .before .if1 .left) (c .if2 .left)))

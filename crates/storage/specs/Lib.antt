@@ -1,0 +1,5 @@
+pub mod Sizes
+pub mod Bytes
+pub mod Modulo
+pub mod Change
+pub mod Tile
