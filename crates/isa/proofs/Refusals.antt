@@ -1,28 +1,41 @@
 -- Tests made after other tests: a refusal among the first stands, and where there is none the later ones decide.
 -- Assumes nothing.
-use mathlib.Core.Path.{_≡_, refl}
+use mathlib.Core.Path.{_≡_, _∙_, refl, ap}
 use mathlib.Core.Bool.{Bool, true, false, cond}
 use mathlib.Core.List.{List, [], _∷_, _++_}
 use mathlib.Core.Option.{none, some}
-use Prim.Native.Nat.{ℕ}
+use Prim.Native.Nat.{_<_}
 use native.Mathlib.Omega.{arith}
-use Rattle.isa.specs.Refusals.{Test, firstFailure}
+use Rattle.isa.specs.Refusals.{number, Test, firstFailure, orElse}
 use Rattle.isa.specs.declared.Refusal.{Refusal}
+use Rattle.isa.specs.declared.Refusal.the-variants.{Flags, VectorLength, ZLength, PLength, ZaLength, ListLength, Unlisted, FeatureOff, StreamingOff, ZaOff, OutOfRange, Room}
+
+pub failure-++ : (ts us : List Test) → firstFailure (ts ++ us) ≡ orElse (firstFailure ts) (firstFailure us)
+failure-++ [] us = refl
+failure-++ (t ∷ ts) us = go (t .fails) (failure-++ ts us)
+  where
+    go : (b : Bool) → firstFailure (ts ++ us) ≡ orElse (firstFailure ts) (firstFailure us)
+        → cond b (some (t .gives)) (firstFailure (ts ++ us)) ≡ orElse (cond b (some (t .gives)) (firstFailure ts)) (firstFailure us)
+    go true h = refl
+    go false h = h
 
 pub failed-before : (ts us : List Test) (r : Refusal) → firstFailure ts ≡ some r → firstFailure (ts ++ us) ≡ some r
-failed-before [] us r p = let z : _≡_ {A = ℕ} 0 1 = cc in absurd (omega arith)
-failed-before (t ∷ ts) us r p = go (t .fails) p (failed-before ts us r)
-  where
-    go : (b : Bool) → cond b (some (t .gives)) (firstFailure ts) ≡ some r → (firstFailure ts ≡ some r → firstFailure (ts ++ us) ≡ some r)
-        → cond b (some (t .gives)) (firstFailure (ts ++ us)) ≡ some r
-    go true q f = q
-    go false q f = f q
+failed-before ts us r p = failure-++ ts us ∙ ap (λ o. orElse o (firstFailure us)) p
 
 pub passed-before : (ts us : List Test) → firstFailure ts ≡ none → firstFailure (ts ++ us) ≡ firstFailure us
-passed-before [] us p = refl
-passed-before (t ∷ ts) us p = go (t .fails) p (passed-before ts us)
-  where
-    go : (b : Bool) → cond b (some (t .gives)) (firstFailure ts) ≡ none → (firstFailure ts ≡ none → firstFailure (ts ++ us) ≡ firstFailure us)
-        → cond b (some (t .gives)) (firstFailure (ts ++ us)) ≡ firstFailure us
-    go true q f = let z : _≡_ {A = ℕ} 0 1 = cc in absurd (omega arith)
-    go false q f = f q
+passed-before ts us p = failure-++ ts us ∙ ap (λ o. orElse o (firstFailure us)) p
+
+-- 0 is no refusal's number
+pub number-positive : (r : Refusal) → 0 < number r
+number-positive Flags = omega arith
+number-positive VectorLength = omega arith
+number-positive ZLength = omega arith
+number-positive PLength = omega arith
+number-positive ZaLength = omega arith
+number-positive ListLength = omega arith
+number-positive Unlisted = omega arith
+number-positive FeatureOff = omega arith
+number-positive StreamingOff = omega arith
+number-positive ZaOff = omega arith
+number-positive OutOfRange = omega arith
+number-positive Room = omega arith

@@ -128,13 +128,18 @@ decodes flags w =
     }
 
 -- ---- descriptions and their words
-describe-word : (i : Instruction) → inRange i ≡ true → describe (wordFor i) ≡ some i
+pub describe-word : (i : Instruction) → inRange i ≡ true → describe (wordFor i) ≡ some i
 describe-word i h =
     let l = word-described i h in
     describe-found (wordFor i) (in-table i) (l .hit) ∙ ap {B = Option Instruction} some (l .back)
 
+-- the word needs the features of the description's line
+pub missing-word : (flags : ℕ) (i : Instruction) → inRange i ≡ true → missing flags (wordFor i) ≡ lacking flags (entryOf i .needs)
+unfolding missing
+missing-word flags i h = rw (lookup-found (wordFor i) (in-table i) (word-described i h .hit))
+
 -- what describes a word is in range, and the word is its word
-described-is : (w : ℕ) (i : Instruction) → w < 2 ^ 32 → describe w ≡ some i → (inRange i ≡ true) × (wordFor i ≡ w)
+pub described-is : (w : ℕ) (i : Instruction) → w < 2 ^ 32 → describe w ≡ some i → (inRange i ≡ true) × (wordFor i ≡ w)
 unfolding describe
 described-is w i h p = go (lookup table w) refl p
   where

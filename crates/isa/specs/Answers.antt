@@ -41,12 +41,18 @@ abbrev pub absent : Option Instruction → Bool
 absent none = true
 absent (some i) = false
 
-abbrev pub decodeTests : ℕ → ℕ → List Test
-decodeTests flags w =
-    record { fails = ltb allFlags flags; gives = Flags }
-    ∷ record { fails = absent (describe w); gives = Unlisted }
+abbrev pub flagsTest : ℕ → Test
+flagsTest flags = record { fails = ltb allFlags flags; gives = Flags }
+
+-- 7 and 8, which every function that takes a word makes
+abbrev pub listingTests : ℕ → ℕ → List Test
+listingTests flags w =
+    record { fails = absent (describe w); gives = Unlisted }
     ∷ record { fails = not (eqb (missing flags w) 0); gives = FeatureOff }
     ∷ []
+
+abbrev pub decodeTests : ℕ → ℕ → List Test
+decodeTests flags w = flagsTest flags ∷ listingTests flags w
 
 -- a refusal, or the description; the last line is there for form, as a word with no description fails its test
 abbrev pub decided : Option Refusal → Option Instruction → Decoded

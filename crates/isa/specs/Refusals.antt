@@ -29,3 +29,8 @@ pub record Test : Type 0 where
 abbrev pub firstFailure : List Test → Option Refusal
 firstFailure [] = none
 firstFailure (t ∷ ts) = cond (t .fails) (some (t .gives)) (firstFailure ts)
+
+-- a refusal, and where there is none, another
+abbrev pub orElse : Option Refusal → Option Refusal → Option Refusal
+orElse none s = s
+orElse (some r) s = some r

@@ -1,0 +1,21 @@
+-- The marked examples come out as they say, by computation. Assumes nothing.
+use mathlib.Core.Path.{_≡_, refl}
+use lib.ListN.{length}
+use Rattle.isa.specs.Answers.{describe, missing, decodeOf}
+use Rattle.text.specs.Spelling.{spelling}
+use Rattle.text.specs.Printing.{textOf, printOf, roomAfter}
+use Rattle.storage.specs.Bytes.{byteOf, word, bitAt}
+use Rattle.storage.specs.Modulo.{modZ, plus}
+use Rattle.storage.specs.Change.{tabulate, change}
+use Rattle.storage.specs.Tile.{start, element, addAt, addTo, clearAt, clear}
+use Rattle.outer.specs.Products.{product, dot}
+use Rattle.replay.specs.Execution.{refusalOf, zaAfter}
+use Rattle.replay.specs.Lists.{played}
+use Rattle.bench.specs.Examples.{examples, answered}
+
+pub examples-hold : answered examples ≡ examples
+unfolding printOf roomAfter textOf describe missing spelling decodeOf start element byteOf word bitAt modZ plus tabulate change addAt addTo clearAt clear product dot refusalOf zaAfter played
+examples-hold = refl
+
+pub twelve : length examples ≡ 12
+twelve = refl

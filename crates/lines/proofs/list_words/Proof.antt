@@ -1,0 +1,26 @@
+-- `lines::list_words` ends, and no sum leaves 32 bits. Assumes nothing.
+use Prim.Native.Nat.{_-_, _≤_}
+use native.Mathlib.Omega.{arith}
+use Rattle.lines.proofs.list_words.Statement.{statement}
+use Rattle.lines.proofs.list_words.Tie as tie
+
+abbrev Inv-loop : tie.InvT-loop
+Inv-loop l₀ i₀ l i = i ≤ 0x1800000
+
+abbrev μ-loop : tie.MeasureT-loop
+μ-loop l₀ i₀ l i = 0x1800000 - i
+
+pub list-words-spec : {M : Type 1} → statement M
+list-words-spec =
+    tie.close
+    (tie.spec
+    Inv-loop
+    μ-loop
+    (λ c. omega arith)
+    (λ c. omega arith)
+    (λ c κs. tt)
+    (λ c κs. tt)
+    (λ c. omega arith)
+    (λ c. omega arith)
+    (λ c. omega arith)
+    (λ c. tt))

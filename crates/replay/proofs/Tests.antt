@@ -1,0 +1,76 @@
+-- Tests in turn: what the first that fails says of the others. Assumes nothing.
+use mathlib.Core.Path.{_≡_, _∙_, sym, refl, ap}
+use mathlib.Core.Bool.{Bool, true, false, cond}
+use mathlib.Core.List.{List, [], _∷_}
+use mathlib.Core.Option.{Option, none, some}
+use Prim.Native.Nat.{ℕ, _≤_}
+use native.Mathlib.Omega.{arith}
+use borrow.Author.Tests.{ltb-false, le-ltb, eqb-true, not-false}
+use Rattle.isa.specs.Refusals.{Test, firstFailure, orElse}
+use Rattle.isa.specs.Table.{allFlags}
+use Rattle.isa.specs.Answers.{describe, listingTests, decodeTests, decodeOf}
+use Rattle.isa.specs.declared.Refusal.{Refusal}
+use Rattle.isa.specs.declared.Instruction.{Instruction}
+use Rattle.isa.specs.declared.Decoded.the-variants.{Accepted, Refused as NotDecoded}
+use Rattle.isa.proofs.Refusals.{failure-++}
+use Rattle.isa.proofs.Answers.{decode-refused, decode-passed}
+use Rattle.replay.specs.Execution.{benchTests, modeTests, wordTests, outcome}
+use Rattle.replay.specs.Claims.{Passes}
+use Rattle.replay.specs.declared.Bench.{Bench}
+use Rattle.replay.specs.declared.Outcome.the-variants.{Done, Refused}
+
+-- ---- tests in turn
+abbrev AllPass : List Test → Type 0
+AllPass [] = Unit {0}
+AllPass (t ∷ ts) = (t .fails ≡ false) × AllPass ts
+
+all-pass : (ts : List Test) → firstFailure ts ≡ none → AllPass ts
+all-pass [] p = tt
+all-pass (t ∷ ts) p = go (t .fails) refl p (all-pass ts)
+  where
+    go : (b : Bool) → t .fails ≡ b → cond b (some (t .gives)) (firstFailure ts) ≡ none → (firstFailure ts ≡ none → AllPass ts) → (t .fails ≡ false) × AllPass ts
+    go true e q rest = let z : _≡_ {A = ℕ} 0 1 = cc in absurd (omega arith)
+    go false e q rest = (e, rest q)
+
+-- ---- answers
+pub outcome-done : (o : Option Refusal) → Done ≡ outcome o → o ≡ none
+outcome-done none p = refl
+outcome-done (some r) p = let z : _≡_ {A = ℕ} 0 1 = cc in absurd (omega arith)
+
+pub outcome-refused : (o : Option Refusal) (r : Refusal) → Refused r ≡ outcome o → o ≡ some r
+outcome-refused none r p = let z : _≡_ {A = ℕ} 0 1 = cc in absurd (omega arith)
+outcome-refused (some s) r p = let z : s ≡ r = cc in ap {B = Option Refusal} some z
+
+-- ---- a bench that passed 1 to 5
+pub bench-passes : (b : Bench) (z p za : ℕ) → firstFailure (benchTests b z p za) ≡ none → Passes b z p za
+bench-passes b z p za h =
+    let a = all-pass (benchTests b z p za) h in
+    record {
+      flags = ltb-false _ _ (a .0);
+      length-legal = not-false _ (a .1 .0);
+      z-size = eqb-true _ _ (not-false _ (a .1 .1 .0));
+      p-size = eqb-true _ _ (not-false _ (a .1 .1 .1 .0));
+      za-size = eqb-true _ _ (not-false _ (a .1 .1 .1 .1 .0));
+    }
+
+-- ---- a word, by decode's answer
+module _ (b : Bench) (w : ℕ) (legal-flags : b .flags ≤ allFlags) where
+  listing : firstFailure (decodeTests (b .flags) w) ≡ firstFailure (listingTests (b .flags) w)
+  listing = rw (le-ltb allFlags (b .flags) legal-flags)
+
+  pub listing-refused : (r : Refusal) → decodeOf (b .flags) w ≡ NotDecoded r → firstFailure (listingTests (b .flags) w) ≡ some r
+  listing-refused r p = sym listing ∙ decode-refused (b .flags) w r p
+
+  pub listing-accepted : (i : Instruction) → decodeOf (b .flags) w ≡ Accepted i → firstFailure (listingTests (b .flags) w) ≡ none
+  listing-accepted i p = sym listing ∙ decode-passed (b .flags) w i p .0
+
+  pub word-refused : (r : Refusal) → decodeOf (b .flags) w ≡ NotDecoded r → firstFailure (wordTests b w) ≡ some r
+  word-refused r p =
+      failure-++ (listingTests (b .flags) w) (modeTests b (describe w))
+      ∙ ap (λ o. orElse o (firstFailure (modeTests b (describe w)))) (listing-refused r p)
+
+  pub word-accepted : (i : Instruction) → decodeOf (b .flags) w ≡ Accepted i → firstFailure (wordTests b w) ≡ firstFailure (modeTests b (some i))
+  word-accepted i p =
+      failure-++ (listingTests (b .flags) w) (modeTests b (describe w))
+      ∙ ap (λ o. orElse o (firstFailure (modeTests b (describe w)))) (listing-accepted i p)
+      ∙ ap (λ d. firstFailure (modeTests b d)) (decode-passed (b .flags) w i p .1)

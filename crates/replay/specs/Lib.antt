@@ -1,0 +1,6 @@
+pub mod Operands
+pub mod Execution
+pub mod Lists
+pub mod Claims
+pub mod Exchange
+pub mod Demand3

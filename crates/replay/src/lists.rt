@@ -1,0 +1,76 @@
+// Lists of words: a run, which stops at the first refused word, and a play, which goes on.
+ghost use mathlib.Core.Path.{_≡_};
+ghost use mathlib.Core.Option.{none};
+ghost use lib.ListN.{length};
+ghost use Rattle.isa.specs.Refusals.{firstFailure};
+ghost use Rattle.replay.specs.Execution.{benchTests};
+ghost use Rattle.replay.specs.Lists.{played, before, stop, ended, runOf, runZa};
+use crate::Bench;
+use crate::Ended;
+use crate::Outcome;
+use crate::executor::check_bench;
+use crate::executor::execute;
+use crate::executor::execute_word;
+use isa::Refusal;
+
+// The most words that a run takes.
+const MOST_WORDS: usize = 4096;
+
+// Executes words in turn and leaves the list at the first that is refused.
+pub fn run(bench: Bench, z: &[u8], p: &[u8], za: &mut [u8], words: &[u32]) -> Ended
+    ensures { λ r. ⌜ r ≡ runOf bench (now (z .entry)) (now (p .entry)) (now (za .entry)) (now (words .entry)) ⌝ }
+    ensures { λ _. ⌜ now (za .exit) ≡ runZa bench (now (z .entry)) (now (p .entry)) (now (za .entry)) (now (words .entry)) ⌝ }
+{
+    match check_bench(bench, z.len(), p.len(), za.len()) {
+        Outcome::Refused(r) => Ended {
+            count: 0,
+            outcome: Outcome::Refused(r),
+        },
+        Outcome::Done => {
+            if MOST_WORDS < words.len() {
+                return Ended {
+                    count: 0,
+                    outcome: Outcome::Refused(Refusal::ListLength),
+                };
+            }
+            run_words(bench, z, p, za, words)
+        }
+    }
+}
+
+// The words of a run on a bench that passed 1 to 5.
+fn run_words(bench: Bench, z: &[u8], p: &[u8], za: &mut [u8], words: &[u32]) -> Ended
+    requires { ⌜ firstFailure (benchTests bench (length (now z)) (length (now p)) (length (now za))) ≡ none ⌝ }
+    ensures { λ r. ⌜ r ≡ ended (length (before bench (now (words .entry)))) (stop bench (now (words .entry))) ⌝ }
+    ensures { λ _. ⌜ now (za .exit) ≡ played bench (now (z .entry)) (now (p .entry)) (now (za .entry)) (before bench (now (words .entry))) ⌝ }
+{
+    let mut i = 0;
+    let ended = loop {
+        if words.len() <= i {
+            break Ended {
+                count: i,
+                outcome: Outcome::Done,
+            };
+        }
+        let out = execute_word(bench, z, p, za, words[i]);
+        if let Outcome::Refused(r) = out {
+            break Ended {
+                count: i,
+                outcome: Outcome::Refused(r),
+            };
+        }
+        i += 1;
+    };
+    ended
+}
+
+// Executes every word singly; a refused one leaves ZA as it was, and the list goes on.
+pub fn play(bench: Bench, z: &[u8], p: &[u8], za: &mut [u8], words: &[u32])
+    ensures { λ _. ⌜ now (za .exit) ≡ played bench (now (z .entry)) (now (p .entry)) (now (za .entry)) (now (words .entry)) ⌝ }
+{
+    let mut k = 0;
+    while k < words.len() {
+        execute(bench, z, p, za, words[k]);
+        k += 1;
+    }
+}

@@ -1,0 +1,262 @@
+// Plays lists of outer products at every vector length, then the reversed lists with add and subtract exchanged, and
+// counts the bytes of ZA that differ from the start. Refused words stand between the others.
+ghost use mathlib.Core.Path.{_≡_};
+ghost use Prim.Native.Nat.{ℕ, _+_, _≤_};
+ghost use lib.ListN.{length};
+ghost use Rattle.undo.specs.Tally.{Below};
+use isa::Decoded;
+use libc::STDOUT_FILENO;
+use replay::Bench;
+
+const ALL_FEATURES: u32 = 7;
+
+const LISTS: u32 = 36;
+
+const LIST_WORDS: usize = 40;
+
+// The lists and their words, how many words decode accepts, how many lists changed ZA on the way forward, and how many
+// bytes of ZA differ after the way back.
+pub struct Tally {
+    pub lists: u64,
+    pub words: u64,
+    pub accepted: u64,
+    pub changed: u64,
+    pub differing: u64,
+}
+
+fn main() {
+    report(16);
+    report(32);
+    report(64);
+    report(128);
+    report(256);
+}
+
+fn report(vb: usize)
+    requires { ⌜ vb ≤ 256 ⌝ }
+{
+    let t = tally_at(vb);
+    count(b"VB ", vb as u64);
+    count(b": lists ", t.lists);
+    count(b", words ", t.words);
+    count(b", accepted ", t.accepted);
+    count(b", lists that changed ZA ", t.changed);
+    count(b", bytes that differ in the end ", t.differing);
+    io::write_all(STDOUT_FILENO, b"\n");
+}
+
+fn count(name: &[u8], n: u64) {
+    io::write_all(STDOUT_FILENO, name);
+    io::print_decimal(STDOUT_FILENO, n);
+}
+
+// Makes the bench of the vector length and room for Z, P, ZA and ZA's start.
+fn tally_at(vb: usize) -> Tally
+    requires { ⌜ vb ≤ 256 ⌝ }
+{
+    let mut z = io::large_buffer();
+    let mut p = io::buffer();
+    let mut za = io::large_buffer();
+    let mut start = io::large_buffer();
+    let bench = Bench {
+        flags: ALL_FEATURES,
+        sm: true,
+        za: true,
+        vb,
+    };
+    let size = vb * vb;
+    tally_lists(
+        bench,
+        &mut z[..32 * vb],
+        &mut p[..2 * vb],
+        &mut za[..size],
+        &mut start[..size],
+    )
+}
+
+fn tally_lists(bench: Bench, z: &mut [u8], p: &mut [u8], za: &mut [u8], start: &mut [u8]) -> Tally
+    requires { ⌜ length (now za) ≤ 65536 ⌝ }
+{
+    let mut t = Tally {
+        lists: 0,
+        words: 0,
+        accepted: 0,
+        changed: 0,
+        differing: 0,
+    };
+    let mut seed = 0;
+    while seed < LISTS {
+        let list = there_and_back(bench, seed, z, p, za, start);
+        t = added(t, list);
+        seed += 1;
+    }
+    t
+}
+
+fn added(t: Tally, list: Tally) -> Tally
+    requires { ⌜ Below 0x1000000 t × Below 65536 list ⌝ }
+    ensures { λ r. ⌜ ((n : ℕ) → Below n t → Below (n + 65536) r) ⌝ }
+{
+    Tally {
+        lists: t.lists + list.lists,
+        words: t.words + list.words,
+        accepted: t.accepted + list.accepted,
+        changed: t.changed + list.changed,
+        differing: t.differing + list.differing,
+    }
+}
+
+// The tally of the list that a seed gives.
+fn there_and_back(
+    bench: Bench,
+    seed: u32,
+    z: &mut [u8],
+    p: &mut [u8],
+    za: &mut [u8],
+    start: &mut [u8],
+) -> Tally
+    requires { ⌜ length (now za) ≤ 65536 ⌝ }
+    ensures { λ r. ⌜ Below 65536 r ⌝ }
+{
+    let after_z = fill(seed, false, z);
+    let after_p = fill(after_z, false, p);
+    let extremes = seed % 2 == 1;
+    let after_za = fill(after_p, extremes, za);
+    // ZA's bytes once more.
+    fill(after_p, extremes, start);
+    let mut words = [0u32; LIST_WORDS];
+    draw(after_za, &mut words);
+    played(bench, z, p, za, start, &words)
+}
+
+fn played(bench: Bench, z: &[u8], p: &[u8], za: &mut [u8], start: &[u8], words: &[u32]) -> Tally
+    requires { ⌜ length (now za) ≤ 65536 ⌝ }
+    requires { ⌜ length (now words) ≡ 40 ⌝ }
+    ensures { λ r. ⌜ Below 65536 r ⌝ }
+{
+    let mut back = [0u32; LIST_WORDS];
+    undoing(words, &mut back);
+    replay::play(bench, z, p, za, words);
+    let changed = differing(za, start) > 0;
+    replay::play(bench, z, p, za, &back);
+    Tally {
+        lists: 1,
+        words: words.len() as u64,
+        accepted: accepted(words),
+        changed: one_if(changed),
+        differing: differing(za, start),
+    }
+}
+
+// The way back: the list reversed, with add and subtract exchanged.
+fn undoing(words: &[u32], back: &mut [u32])
+    requires { ⌜ length (now words) ≡ length (now back) ⌝ }
+{
+    let mut i = 0;
+    while i < words.len() {
+        let word = words[words.len() - 1 - i];
+        back[i] = replay::exchange(ALL_FEATURES, word);
+        i += 1;
+    }
+}
+
+fn accepted(words: &[u32]) -> u64
+    ensures { λ r. ⌜ r ≤ length (now (words .entry)) ⌝ }
+{
+    let mut n: u64 = 0;
+    let mut i = 0;
+    while i < words.len() {
+        n += one_if(is_accepted(words[i]));
+        i += 1;
+    }
+    n
+}
+
+fn one_if(b: bool) -> u64
+    ensures { λ r. ⌜ r ≤ 1 ⌝ }
+{
+    if b { 1 } else { 0 }
+}
+
+// With both modes on, a word is accepted if decode accepts it.
+fn is_accepted(word: u32) -> bool {
+    match isa::decode(ALL_FEATURES, word) {
+        Decoded::Accepted(_) => true,
+        Decoded::Refused(_) => false,
+    }
+}
+
+// How many of a's bytes b hasn't in the same place.
+fn differing(a: &[u8], b: &[u8]) -> u64
+    ensures { λ r. ⌜ r ≤ length (now (a .entry)) ⌝ }
+{
+    let mut n: u64 = 0;
+    let mut i = 0;
+    while i < a.len() {
+        n += one_if(!has(b, i, a[i]));
+        i += 1;
+    }
+    n
+}
+
+fn has(bytes: &[u8], i: usize, byte: u8) -> bool {
+    if bytes.len() <= i {
+        return false;
+    }
+    bytes[i] == byte
+}
+
+// Fills the bytes from the generator that stands at x, and answers where it stands afterwards.
+fn fill(x: u32, extremes: bool, bytes: &mut [u8]) -> u32 {
+    let mut x = x;
+    let mut i = 0;
+    while i < bytes.len() {
+        x = step(x);
+        bytes[i] = byte_of(x, extremes);
+        i += 1;
+    }
+    x
+}
+
+// With extremes 00 or FF, so that sums often carry out of an element, and the order of the widths counts.
+fn byte_of(x: u32, extremes: bool) -> u8 {
+    let byte = (x / 65536 % 256) as u8;
+    if !extremes {
+        return byte;
+    }
+    if byte < 128 { 0 } else { 255 }
+}
+
+fn draw(x: u32, words: &mut [u32]) {
+    let mut x = x;
+    let mut i = 0;
+    while i < words.len() {
+        let y = step(x);
+        let kind = step(y);
+        x = step(kind);
+        words[i] = word_of(kind / 65536 % 6, joined(y, x));
+        i += 1;
+    }
+}
+
+fn step(x: u32) -> u32 {
+    ((x as u64 * 1103515245 + 12345) % 0x1_0000_0000) as u32
+}
+
+// The upper halves of both: the generator's lower bits repeat soon.
+fn joined(x: u32, y: u32) -> u32 {
+    x / 65536 * 65536 + y / 65536
+}
+
+// A word with the fixed bits of a row of the encoding table, or a refused one.
+fn word_of(kind: u32, free: u32) -> u32 {
+    match kind {
+        0 => 0xa080_0000 | (free & 0x013f_fff3),
+        1 => 0xa0c0_0000 | (free & 0x013f_fff7),
+        2 => 0x8000_8000 | (free & 0x013e_03d3),
+        3 => 0xa0c0_0008 | (free & 0x013e_03d7),
+        // The quarter-tile forms have 0 in bit 16.
+        4 => 0xa0c1_0008 | (free & 0x013e_03d7),
+        _ => free,
+    }
+}
