@@ -2,13 +2,13 @@
 use mathlib.Core.Path.{_≡_, refl, sym, ap, ap₂, _∙_}
 use mathlib.Core.List.{List, [], _∷_, _++_}
 use Prim.Native.Nat.{ℕ, zero, suc, _+_, _*_, _/_, _%_, _^_, _≤_, _<_}
-use native.Mathlib.Nat.{mod-lt, add-zero, add-suc, suc-add, zero-lt-suc, mul-comm, pow-suc, div-one, mod-one, div-div-eq-div-mul, mod-eq-of-lt, not-suc-le-zero, le-of-suc-le-suc}
+use native.Mathlib.Nat.{mod-lt, add-zero, add-suc, suc-add, zero-lt-suc, mul-comm, pow-suc, div-one, mod-one, div-div-eq-div-mul, not-suc-le-zero, le-of-suc-le-suc}
 use native.Mathlib.Omega.{arith}
 use lib.Arith.{mod-mul}
 use lib.Dec.{lit<}
 use lib.ListN.{length}
 use lib.ListN.{set, length-set}
-use lib.Seq.{sets, ext-getD, getD-set-same, getD-set-other}
+use lib.Seq.{sets, getD-set-same, getD-set-other}
 use mathlib.Core.Logic.{_≢_, _⊎_, inl, inr}
 use native.Mathlib.Nat.{zero-add}
 use Rattle.storage.specs.Bytes.{at, byteOf, word, bytesOf}
@@ -81,15 +81,6 @@ unfolding bytesOf
 at-bytesOf zero v k h = absurd (not-suc-le-zero h)
 at-bytesOf (suc E) v zero h = sym (byte-zero v)
 at-bytesOf (suc E) v (suc k) h = at-bytesOf E (v / 256) k (le-of-suc-le-suc h) ∙ sym (byte-suc k v)
-
--- the round trips
-pub word-bytesOf : (E v : ℕ) → v < 256 ^ E → word E (at (bytesOf E v)) 0 ≡ v
-word-bytesOf E v h = word-byte E v 0 (at (bytesOf E v)) (λ k l. rw zero-add (at-bytesOf E v k l)) ∙ mod-eq-of-lt h
-
-pub bytesOf-word : (l : List ℕ) → ((p : ℕ) → at l p < 256) → bytesOf (length l) (word (length l) (at l) 0) ≡ l
-bytesOf-word l b =
-    ext-getD 0 (bytesOf (length l) (word (length l) (at l) 0)) l (length-bytesOf (length l) _)
-    (λ i h. let g : i < length l = rw length-bytesOf at h in at-bytesOf (length l) _ i g ∙ byte-word (length l) i 0 (at l) b g ∙ rw zero-add)
 
 -- a run of stores, read below, above and in it
 pub at-sets-out : (vs l : List ℕ) (p q : ℕ) → (q < p) ⊎ (p + length vs ≤ q) → at (sets l p vs) q ≡ at l q

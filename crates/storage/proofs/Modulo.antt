@@ -5,7 +5,7 @@ use Prim.Native.Nat.{ℕ, zero, suc, _+_, _-_, _%_, _^_, _<_}
 use native.Mathlib.Nat.{one-le-pow, mod-lt, mod-self, zero-mod, mod-mod, mod-eq-of-lt, suc-mod, mod-add-mod, add-mod-mod, eq-or-lt-of-le, add-mod-right, add-assoc, add-zero}
 use native.Mathlib.Numerals.{add-one}
 use native.Mathlib.Omega.{arith}
-use lib.IntN.{ℤ, pos, negsuc, sucℤ, predℤ, negℤ, _+ℤ_, +ℤ-idr, +ℤ-one, -ℤ-one, +ℤ-sucℤ, +ℤ-predℤ, +ℤ-invr, suc-pred, ℤ-ind}
+use lib.IntN.{ℤ, pos, negsuc, sucℤ, predℤ, negℤ, _+ℤ_, +ℤ-idr, +ℤ-one, -ℤ-one, +ℤ-sucℤ, +ℤ-predℤ, suc-pred, ℤ-ind}
 use lib.Dec.{lit<}
 use Rattle.storage.specs.Modulo.{modZ, plus}
 
@@ -81,18 +81,6 @@ module _ (m : ℕ) (h : 0 < m) where
   pub shift-zero : (x : ℕ) → x < m → (x + modZ m (pos 0)) % m ≡ x
   unfolding modZ
   shift-zero x l = ap (λ (r : ℕ). (x + r) % m) (zero-mod m) ∙ ap (λ (r : ℕ). r % m) (add-zero x) ∙ mod-eq-of-lt l
-
-  pub modZ-inv : (z : ℤ) → (modZ m z + modZ m (negℤ z)) % m ≡ 0
-  unfolding modZ
-  modZ-inv z = sym (modZ-add z (negℤ z)) ∙ ap (modZ m) (+ℤ-invr z) ∙ zero-mod m
-
-  pub modZ-neg : (z : ℤ) → modZ m (negℤ z) ≡ (m - modZ m z) % m
-  modZ-neg z =
-      let a : modZ m z < m = modZ-lt z in
-      let e : m - modZ m z + (modZ m z + modZ m (negℤ z)) ≡ modZ m (negℤ z) + m = omega arith in
-      sym (mod-eq-of-lt (modZ-lt (negℤ z))) ∙ sym (add-mod-right (modZ m (negℤ z)) m) ∙ ap (λ (r : ℕ). r % m) (sym e)
-      ∙ sym (add-mod-mod (m - modZ m z) (modZ m z + modZ m (negℤ z)) m) ∙ ap (λ (r : ℕ). (m - modZ m z + r) % m) (modZ-inv z)
-      ∙ ap (λ (r : ℕ). r % m) (add-zero (m - modZ m z))
 
 -- ---- adding to an element of E bytes
 

@@ -65,19 +65,9 @@ module _ (E vb : ℕ) (s : Sized E vb) where
     pub word-in : (e : ℕ) → e / s .cols % E ≡ t → word E (addAt E vb t f m) (e * E) ≡ newAt E (s .cols) f m e
     word-in e i = word-byte E (newAt E (s .cols) f m e) (e * E) (addAt E vb t f m) (λ k h. add-in e k h i) ∙ plus-mod E _ _
 
-    pub word-out : (e : ℕ) → e / s .cols % E ≢ t → word E (addAt E vb t f m) (e * E) ≡ word E m (e * E)
-    word-out e i = word-ext E (addAt E vb t f m) m (e * E) (e * E) (λ k h. add-out e k h i)
-
   -- what holds at each byte of each element holds at each position
   pub by-element : (P : ℕ → Type 0) → ((e k : ℕ) → k < E → P (e * E + k)) → (p : ℕ) → P p
   by-element P h p = subst P (div-add-mod' p E) (h (p / E) (p % E) (mod-lt p (s .some)))
-
-  -- only what f gives to columns of ZA counts
-  pub add-cong : (t : ℕ) (f g : ℕ → ℕ → ℤ) → ((r c : ℕ) → c < s .cols → f r c ≡ g r c) → (m : Store) (p : ℕ) → addAt E vb t f m p ≡ addAt E vb t g m p
-  add-cong t f g a m = by-element (λ p. addAt E vb t f m p ≡ addAt E vb t g m p) (λ e k h.
-      add-at t f m e k h
-      ∙ ap (λ (z : ℤ). cond (inTile E t (e / s .cols)) (byteOf k (plus E (word E m (e * E)) z)) (m (e * E + k))) (a (e / s .cols / E) (e % s .cols) (mod-lt e (s .wide)))
-      ∙ sym (add-at t g m e k h))
 
   -- law 4: what is left at a position depends on its row alone
   pub add-local : (t : ℕ) (f : ℕ → ℕ → ℤ) → Local vb (addAt E vb t f)
