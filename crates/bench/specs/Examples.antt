@@ -5,7 +5,7 @@ use mathlib.Core.List.{List, [], _∷_, _++_, map}
 use mathlib.Core.Option.{Option, none, some}
 use Prim.Native.Nat.{ℕ}
 use lib.ListN.{take, replicate}
-use Rattle.isa.specs.Answers.{describe, decodeOf, decodedNumber}
+use Rattle.isa.specs.Answers.{describe, decodeNumber}
 use Rattle.isa.specs.declared.Instruction.{Instruction}
 use Rattle.isa.specs.declared.Instruction.the-variants.{Predicated, Quarter, Zero}
 use Rattle.text.specs.Ascii.{ascii}
@@ -39,7 +39,7 @@ bench16 = record { flags = 7; sm = true; za = true; vb = 16 }
 
 abbrev pub answerTo : Question → List ℕ
 answerTo (text flags w) = take (lengthIn flags w room) (roomAfter flags w room)
-answerTo (number flags w) = decodedNumber (decodeOf flags w) ∷ []
+answerTo (number flags w) = decodeNumber flags w ∷ []
 answerTo (tile w) = tileOf (describe w)
 answerTo (address E vb t row col) = start E vb t row col ∷ []
 answerTo (za-after z p za ws) = played bench16 z p za ws

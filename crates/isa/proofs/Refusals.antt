@@ -4,7 +4,7 @@ use mathlib.Core.Path.{_≡_, _∙_, refl, ap}
 use mathlib.Core.Bool.{Bool, true, false, cond}
 use mathlib.Core.List.{List, [], _∷_, _++_}
 use mathlib.Core.Option.{none, some}
-use Prim.Native.Nat.{_<_}
+use Prim.Native.Nat.{_<_, _≤_}
 use native.Mathlib.Omega.{arith}
 use Rattle.isa.specs.Refusals.{number, Test, firstFailure, orElse}
 use Rattle.isa.specs.declared.Refusal.{Refusal}
@@ -25,17 +25,20 @@ failed-before ts us r p = failure-++ ts us ∙ ap (λ o. orElse o (firstFailure 
 pub passed-before : (ts us : List Test) → firstFailure ts ≡ none → firstFailure (ts ++ us) ≡ firstFailure us
 passed-before ts us p = failure-++ ts us ∙ ap (λ o. orElse o (firstFailure us)) p
 
--- 0 is no refusal's number
+-- refusals are numbered from 1 to 12: 0 is none's, and each fits beside a value
+pub number-between : (r : Refusal) → (1 ≤ number r) × (number r ≤ 12)
+number-between Flags = (omega arith, omega arith)
+number-between VectorLength = (omega arith, omega arith)
+number-between ZLength = (omega arith, omega arith)
+number-between PLength = (omega arith, omega arith)
+number-between ZaLength = (omega arith, omega arith)
+number-between ListLength = (omega arith, omega arith)
+number-between Unlisted = (omega arith, omega arith)
+number-between FeatureOff = (omega arith, omega arith)
+number-between StreamingOff = (omega arith, omega arith)
+number-between ZaOff = (omega arith, omega arith)
+number-between OutOfRange = (omega arith, omega arith)
+number-between Room = (omega arith, omega arith)
+
 pub number-positive : (r : Refusal) → 0 < number r
-number-positive Flags = omega arith
-number-positive VectorLength = omega arith
-number-positive ZLength = omega arith
-number-positive PLength = omega arith
-number-positive ZaLength = omega arith
-number-positive ListLength = omega arith
-number-positive Unlisted = omega arith
-number-positive FeatureOff = omega arith
-number-positive StreamingOff = omega arith
-number-positive ZaOff = omega arith
-number-positive OutOfRange = omega arith
-number-positive Room = omega arith
+number-positive r = number-between r .0

@@ -7,7 +7,7 @@ use native.Mathlib.Omega.{arith}
 use lib.Dec.{eqb, ltb}
 use borrow.Author.Tests.{eq-eqb, ne-eqb, eqb-true, eqb-false, ltb-true, ltb-false}
 use Rattle.isa.specs.Table.{Entry, table, allFlags, lacking, described, entryOf, inRange, wordFor}
-use Rattle.isa.specs.Answers.{lookup, describedBy, neededBy, describe, missing, decodeOf, decodedNumber, encodeOf, encodedNumber}
+use Rattle.isa.specs.Answers.{lookup, describedBy, neededBy, describe, missing, decodeOf, decodedNumber, decodeNumber, encodeOf, encodedNumber}
 use Rattle.isa.specs.Claims.{Listed, FeaturesOn, Decodes, Encodes, Describes, OneLine}
 use Rattle.isa.specs.declared.Instruction.{Instruction}
 use Rattle.isa.specs.declared.Refusal.the-variants.{Unlisted, FeatureOff}
@@ -65,7 +65,7 @@ data Case (flags w : ℕ) : ℕ → Type 0 where
 
 module _ (flags w : ℕ) where
   abbrev given : ℕ
-  given = decodedNumber (decodeOf flags w)
+  given = decodeNumber flags w
 
   case : Case flags w given
   case = by-flags (ltb allFlags flags) refl

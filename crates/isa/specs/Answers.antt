@@ -72,10 +72,18 @@ allowed lacks i = cond (eqb lacks 0) (Accepted i) (NotDecoded FeatureOff)
 unfoldable pub decodeOf : ℕ → ℕ → Decoded
 decodeOf flags w = decided (firstFailure (decodeTests flags w)) (describe w)
 
+abbrev pub decodeNumber : ℕ → ℕ → ℕ
+decodeNumber flags w = decodedNumber (decodeOf flags w)
+
 -- ---- encode: test 11
 unfoldable pub encodeOf : Instruction → Encoded
 encodeOf i = cond (inRange i) (Word (wordFor i)) (NotEncoded OutOfRange)
 
+-- the paper's number and value of an answer
 abbrev pub encodedNumber : Encoded → ℕ
 encodedNumber (Word w) = 0
 encodedNumber (NotEncoded r) = number r
+
+abbrev pub encodedWord : Encoded → ℕ
+encodedWord (Word w) = w
+encodedWord (NotEncoded r) = 0

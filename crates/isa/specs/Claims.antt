@@ -8,7 +8,7 @@ use Prim.Native.Nat.{ℕ, _≤_, _<_, _^_}
 use lib.ListN.{length}
 use Rattle.isa.specs.Row.{matches}
 use Rattle.isa.specs.Table.{Feature, Entry, table, allFlags, on, entryOf, inRange}
-use Rattle.isa.specs.Answers.{describe, missing, decodeOf, decodedNumber, encodeOf, encodedNumber}
+use Rattle.isa.specs.Answers.{describe, missing, decodeOf, decodeNumber, encodeOf, encodedNumber}
 use Rattle.isa.specs.declared.Instruction.{Instruction}
 use Rattle.isa.specs.declared.Decoded.the-variants.{Accepted}
 use Rattle.isa.specs.declared.Encoded.the-variants.{Word}
@@ -27,10 +27,10 @@ FeaturesOn flags w = (e : Entry) → List·Memᴰ e table → matches (e .row) w
 
 -- which words decode accepts, and which number the others get
 pub record Decodes (flags w : ℕ) : Type 0 where
-  pub accepts : (decodedNumber (decodeOf flags w) ≡ 0) ↔ (flags ≤ allFlags) × Listed w × FeaturesOn flags w
-  pub gives-1 : (decodedNumber (decodeOf flags w) ≡ 1) ↔ (allFlags < flags)
-  pub gives-7 : (decodedNumber (decodeOf flags w) ≡ 7) ↔ (flags ≤ allFlags) × (Listed w → ⊥)
-  pub gives-8 : (decodedNumber (decodeOf flags w) ≡ 8) ↔ (flags ≤ allFlags) × Listed w × (FeaturesOn flags w → ⊥)
+  pub accepts : (decodeNumber flags w ≡ 0) ↔ (flags ≤ allFlags) × Listed w × FeaturesOn flags w
+  pub gives-1 : (decodeNumber flags w ≡ 1) ↔ (allFlags < flags)
+  pub gives-7 : (decodeNumber flags w ≡ 7) ↔ (flags ≤ allFlags) × (Listed w → ⊥)
+  pub gives-8 : (decodeNumber flags w ≡ 8) ↔ (flags ≤ allFlags) × Listed w × (FeaturesOn flags w → ⊥)
   pub describes : (i : Instruction) → decodeOf flags w ≡ Accepted i → describe w ≡ some i
   pub missing-none : (missing flags w ≡ 0) ↔ FeaturesOn flags w
 

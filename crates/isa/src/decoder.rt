@@ -156,7 +156,8 @@ fn tile_of(w: u32, wide: bool) -> Tile
     if wide { Tile(w % 8) } else { Tile(w % 4) }
 }
 
-fn source_of(pair: bool, n: u32) -> Source
+// A source by its kind and its first register.
+pub fn source_of(pair: bool, n: u32) -> Source
     ensures { λ r. ⌜ r ≡ source pair n ⌝ }
 {
     if pair {

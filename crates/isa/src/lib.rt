@@ -4,6 +4,7 @@ mod encoder;
 mod numbers;
 
 pub use decoder::decode;
+pub use decoder::source_of;
 pub use encoder::encode;
 pub use numbers::number;
 

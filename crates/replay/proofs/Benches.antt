@@ -7,7 +7,7 @@ use mathlib.Core.Option.{Option, none, some}
 use Prim.Native.Nat.{ℕ}
 use lib.ListN.{length}
 use Rattle.isa.specs.Refusals.{firstFailure}
-use Rattle.isa.specs.Answers.{decodeOf, decodedNumber}
+use Rattle.isa.specs.Answers.{decodeOf, decodedNumber, decodeNumber}
 use Rattle.isa.specs.declared.Refusal.{Refusal}
 use Rattle.isa.specs.declared.Decoded.{Decoded}
 use Rattle.isa.specs.declared.Decoded.the-variants.{Accepted, Refused}
@@ -35,7 +35,7 @@ module _ (b : Bench) (z p za : List ℕ) where
           sound (legal-length (b .vb) (q .length-legal)) (q .za-size)
 
   -- decode accepts what the bench accepts
-  pub accepted-decodes : (w : ℕ) → accepted b z p za w ≡ true → decodedNumber (decodeOf (b .flags) w) ≡ 0
+  pub accepted-decodes : (w : ℕ) → accepted b z p za w ≡ true → decodeNumber (b .flags) w ≡ 0
   accepted-decodes w a = bench (firstFailure (benchTests b (length z) (length p) (length za))) refl
     where
       not-refused : (r : Refusal) → refusalOf b z p za w ≡ some r → ⊥
@@ -47,6 +47,6 @@ module _ (b : Bench) (z p za : List ℕ) where
           let q = bench-passes b (length z) (length p) (length za) h in
           absurd (not-refused r (refused-by-word b z p za w h ∙ word-refused b w (q .flags) r e))
 
-      bench : (o : Option Refusal) → firstFailure (benchTests b (length z) (length p) (length za)) ≡ o → decodedNumber (decodeOf (b .flags) w) ≡ 0
+      bench : (o : Option Refusal) → firstFailure (benchTests b (length z) (length p) (length za)) ≡ o → decodeNumber (b .flags) w ≡ 0
       bench (some r) h = absurd (not-refused r (refused-by-bench b z p za w r h))
       bench none h = word h (decodeOf (b .flags) w) refl

@@ -10,7 +10,7 @@ use lib.ListN.{length}
 use lib.IntN.{ℤ, pos, _+ℤ_}
 use borrow.Author.Tests.{eqb-true, eq-eqb, ne-eqb, ltb-true}
 use Rattle.isa.specs.Table.{ranges, inRange}
-use Rattle.isa.specs.Answers.{absent, describe, decodeOf, decodedNumber}
+use Rattle.isa.specs.Answers.{absent, describe, decodeNumber}
 use Rattle.isa.specs.declared.Refusal.{Refusal}
 use Rattle.isa.specs.declared.Instruction.{Instruction}
 use Rattle.isa.specs.declared.Instruction.the-variants.{Predicated, Quarter, Zero}
@@ -219,9 +219,9 @@ module _ (b : Bench) (z p za : List ℕ) where
 
     pub program-exchanges : Exchanges w (exchangeOf (b .flags) w)
     unfolding exchangeOf
-    program-exchanges = go (eqb (decodedNumber (decodeOf (b .flags) w)) 0) (isOuter (describe w)) (accepted b z p za w) refl refl refl
+    program-exchanges = go (eqb (decodeNumber (b .flags) w) 0) (isOuter (describe w)) (accepted b z p za w) refl refl refl
       where
-        go : (d o c : Bool) → eqb (decodedNumber (decodeOf (b .flags) w)) 0 ≡ d → isOuter (describe w) ≡ o → accepted b z p za w ≡ c
+        go : (d o c : Bool) → eqb (decodeNumber (b .flags) w) 0 ≡ d → isOuter (describe w) ≡ o → accepted b z p za w ≡ c
             → Exchanges w (cond (d && o) (flipS w) w)
         go true true c e f g = flipped f
         go d false true e f g = absurd (false≢true (sym f ∙ outer g))

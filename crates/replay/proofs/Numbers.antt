@@ -1,6 +1,6 @@
 -- The numbers that tests 1 to 5 and 7 to 10 give, by the conditions of document 01. Assumes nothing.
 use mathlib.Core.Path.{_≡_, _∙_, sym, refl, ap, subst}
-use mathlib.Core.Bool.{Bool, true, false, not, cond, _&&_}
+use mathlib.Core.Bool.{Bool, true, false, not, cond, _&&_, true≢false}
 use mathlib.Core.Logic.{_↔_}
 use mathlib.Core.Option.{Option, none, some}
 use Prim.Native.Nat.{ℕ, _≤_, _<_}
@@ -9,7 +9,7 @@ use lib.Dec.{eqb, ltb}
 use borrow.Author.Tests.{lt-ltb, le-ltb, eq-eqb, ne-eqb, ltb-true, ltb-false, eqb-true, eqb-false}
 use Rattle.isa.specs.Refusals.{firstFailure, orElse}
 use Rattle.isa.specs.Table.{allFlags}
-use Rattle.isa.specs.Answers.{describe, missing, absent, listingTests, decodeOf}
+use Rattle.isa.specs.Answers.{describe, missing, absent, listingTests, decodeOf, decodeNumber}
 use Rattle.isa.specs.declared.Refusal.{Refusal}
 use Rattle.isa.specs.declared.Refusal.the-variants.{Flags, VectorLength, ZLength, PLength, ZaLength, Unlisted, FeatureOff, StreamingOff, ZaOff}
 use Rattle.isa.specs.declared.Decoded.{Decoded}
@@ -17,7 +17,7 @@ use Rattle.isa.specs.declared.Decoded.the-variants.{Accepted, Refused as NotDec
 use Rattle.storage.specs.Sizes.{legal, zSize, pSize, zaSize}
 use Rattle.replay.specs.declared.Bench.{Bench}
 use Rattle.replay.specs.Execution.{benchTests, wordTests, isOuter, outcome, outcomeNumber}
-use Rattle.replay.specs.Claims.{decodeNumber, Passes, FirstFive}
+use Rattle.replay.specs.Claims.{Passes, FirstFive}
 use Rattle.replay.proofs.Tests.{listing-refused, listing-accepted}
 
 -- the number of an answer, 0 for none
@@ -165,7 +165,7 @@ pub data Word : ℕ → Bool → Bool → Bool → ℕ → Type 0 where
   done : {o s : Bool} → (o ≡ true → s ≡ true) → Word 0 o s true 0
 
 false-true : {A : Type 0} → false ≡ true → A
-false-true e = let z : _≡_ {A = ℕ} 0 1 = cc in absurd (omega arith)
+false-true e = absurd (true≢false (sym e))
 
 pub word-late : {d m : ℕ} {o s a : Bool} → Word d o s a m → 0 < m → 6 < m
 word-late unlisted h = omega arith

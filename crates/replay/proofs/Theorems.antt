@@ -10,7 +10,7 @@ use lib.Dec.{ltb}
 use lib.ListN.{length, getD, take}
 use borrow.Author.Tests.{ltb-true, ltb-false}
 use Rattle.isa.specs.Refusals.{firstFailure, orElse}
-use Rattle.isa.specs.Answers.{describe}
+use Rattle.isa.specs.Answers.{describe, decodeNumber}
 use Rattle.isa.specs.declared.Refusal.{Refusal}
 use Rattle.isa.specs.declared.Refusal.the-variants.{ListLength}
 use Rattle.isa.proofs.Refusals.{failure-++, number-positive}
@@ -18,9 +18,9 @@ use Rattle.replay.specs.declared.Bench.{Bench}
 use Rattle.replay.specs.declared.Ended.{Ended}
 use Rattle.replay.specs.Execution.{benchTests, wordTests, isOuter, refusalOf, unless, outcomeNumber}
 use Rattle.replay.specs.Lists.{played, mostWords, listTest, runTests, keep, before, stop, runOf, runZa}
-use Rattle.replay.specs.Claims.{decodeNumber, executeNumber, Passes, FirstFive, BenchPasses, Executes, runNumber, runCount, Ends, Runs}
+use Rattle.replay.specs.Claims.{executeNumber, Passes, FirstFive, BenchPasses, Executes, runNumber, runCount, Ends, Runs}
 use Rattle.replay.proofs.Execution.{refusal-by, refused-by-word, za-after}
-use Rattle.replay.proofs.Runs.{run-by, run-not-begun, run-words-played}
+use Rattle.replay.proofs.Runs.{run-by, run-not-begun, run-bench-refused, run-too-long, run-words-played}
 use Rattle.replay.proofs.Numbers.{numberOf, Late, given, bench-passed, first-five, later, Word, word-7, word-8, word-9, word-10, word-0, wordNumber, word, word-number-late}
 
 -- ---- one word, and ZA by its number
@@ -190,6 +190,17 @@ module _ (b : Bench) (z p za ws : List ℕ) where
           let k = leaves-late (leaves b ws) (omega arith) in
           absurd (omega arith)
 
+  run-most : runCount b z p za ws ≤ mostWords
+  run-most = go (firstFailure (benchTests b (length z) (length p) (length za))) refl (ltb mostWords (length ws)) refl
+    where
+      go : (o : Option Refusal) → firstFailure (benchTests b (length z) (length p) (length za)) ≡ o → (t : Bool) → ltb mostWords (length ws) ≡ t → runCount b z p za ws ≤ mostWords
+      go (some r) e t f = let c = ap (λ (r : Ended). r .count) (run-bench-refused b z p za ws r e .0) in omega arith
+      go none e true f = let c = ap (λ (r : Ended). r .count) (run-too-long b z p za ws e (ltb-true mostWords (length ws) f) .0) in omega arith
+      go none e false f =
+          let h = ltb-false mostWords (length ws) f in
+          let c = ap (λ (r : Ended). r .count) (run-words-played b z p za ws e _ _ h refl refl .0) in
+          omega (arith, leaves-within (leaves b ws))
+
   -- which number a run gets, how many words it executes, and what it leaves of ZA
   pub runs : Runs b z p za ws
   runs =
@@ -201,5 +212,6 @@ module _ (b : Bench) (z p za ws : List ℕ) where
             subst (λ k. (k ≡ 6) ↔ BenchPasses b z p za × (mostWords < length ws)) (sym run-is)
             (later b (length z) (length p) (length za) fromSix (λ l. omega arith) (λ h. is-six));
         not-begun = run-refused;
+        most = run-most;
         begun = run-begun;
       }

@@ -6,16 +6,13 @@ use mathlib.Core.List.{List}
 use Prim.Native.Nat.{ℕ, _≤_, _<_}
 use lib.ListN.{length, getD, take}
 use Rattle.isa.specs.Table.{allFlags}
-use Rattle.isa.specs.Answers.{describe, decodeOf, decodedNumber}
+use Rattle.isa.specs.Answers.{describe, decodeNumber}
 use Rattle.storage.specs.Sizes.{legal, zSize, pSize, zaSize}
 use Rattle.replay.specs.declared.Bench.{Bench}
 use Rattle.replay.specs.Execution.{isOuter, refusalOf, effect, zaAfter, outcome, outcomeNumber}
 use Rattle.replay.specs.Lists.{played, mostWords, runOf, runZa}
 
 -- ---- the numbers
-abbrev pub decodeNumber : ℕ → ℕ → ℕ
-decodeNumber flags w = decodedNumber (decodeOf flags w)
-
 abbrev pub executeNumber : Bench → List ℕ → List ℕ → List ℕ → ℕ → ℕ
 executeNumber b z p za w = outcomeNumber (outcome (refusalOf b z p za w))
 
@@ -78,4 +75,5 @@ module _ (b : Bench) (z p za ws : List ℕ) where
     pub first-five : FirstFive b (length z) (length p) (length za) (runNumber b z p za ws)
     pub gives-6 : (runNumber b z p za ws ≡ 6) ↔ BenchPasses b z p za × (mostWords < length ws)
     pub not-begun : 0 < runNumber b z p za ws → runNumber b z p za ws ≤ 6 → (runCount b z p za ws ≡ 0) × (runZa b z p za ws ≡ za)
+    pub most : runCount b z p za ws ≤ mostWords
     pub begun : BenchPasses b z p za → length ws ≤ mostWords → Ends (runCount b z p za ws) (runNumber b z p za ws) (runZa b z p za ws)

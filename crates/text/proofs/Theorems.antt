@@ -12,7 +12,7 @@ use lib.Seq.{take-append-seam, drop-append-seam}
 use borrow.Author.Tests.{ltb-true, ltb-false}
 use Rattle.isa.specs.Refusals.{number}
 use Rattle.isa.specs.Table.{allFlags}
-use Rattle.isa.specs.Answers.{describe, missing, absent, decodeOf}
+use Rattle.isa.specs.Answers.{describe, missing, absent, decodeOf, decodeNumber}
 use Rattle.isa.specs.declared.Instruction.{Instruction}
 use Rattle.isa.specs.declared.Refusal.{Refusal}
 use Rattle.isa.specs.declared.Refusal.the-variants.{Flags, Unlisted, FeatureOff}
@@ -22,7 +22,7 @@ use Rattle.isa.proofs.Answers.{decode-refused}
 use Rattle.text.specs.Spelling.{spelling}
 use Rattle.text.specs.Put.{printedIn, filledWith}
 use Rattle.text.specs.Printing.{textOf, printedNumber, printedLength, roomAfter}
-use Rattle.text.specs.Claims.{numberIn, lengthIn, decodeNumber, Holds, Prints}
+use Rattle.text.specs.Claims.{numberIn, lengthIn, Holds, Prints}
 use Rattle.text.proofs.Rooms.{accepted-text, print-accepted, room-accepted, print-refused, room-refused}
 use Rattle.text.proofs.Lengths.{Between, line-between}
 

@@ -4,19 +4,16 @@ use mathlib.Core.Logic.{_↔_}
 use mathlib.Core.List.{List}
 use Prim.Native.Nat.{ℕ, _≤_, _<_}
 use lib.ListN.{length, take, drop}
-use Rattle.isa.specs.Answers.{decodeOf, decodedNumber}
+use Rattle.isa.specs.Answers.{decodeNumber}
 use Rattle.text.specs.Spelling.{Text}
 use Rattle.text.specs.Printing.{textOf, printOf, printedNumber, printedLength, roomAfter}
 
--- print's number and length for a room, and decode's number
+-- print's number and length for a room
 abbrev pub numberIn : ℕ → ℕ → List ℕ → ℕ
 numberIn flags w room = printedNumber (printOf flags w (length room))
 
 abbrev pub lengthIn : ℕ → ℕ → List ℕ → ℕ
 lengthIn flags w room = printedLength (printOf flags w (length room))
-
-abbrev pub decodeNumber : ℕ → ℕ → ℕ
-decodeNumber flags w = decodedNumber (decodeOf flags w)
 
 -- a text of n bytes is at the start of a room, and the bytes after it are as they were
 pub record Holds (t : Text) (n : ℕ) (before after : List ℕ) : Type 0 where

@@ -1,0 +1,50 @@
+-- Answers packed beside their refusals, and that they fit: texts and runs are short. Assumes nothing.
+use mathlib.Core.Path.{_≡_, _∙_, sym, ap, subst}
+use mathlib.Core.List.{List}
+use Prim.Native.Nat.{ℕ, _*_, _≤_}
+use native.Mathlib.Omega.{arith}
+use lib.ListN.{length}
+use Rattle.isa.specs.Refusals.{number}
+use Rattle.isa.specs.declared.Refusal.{Refusal}
+use Rattle.isa.specs.declared.Encoded.{Encoded}
+use Rattle.isa.specs.declared.Encoded.the-variants.{Word, Refused as NotEncoded}
+use Rattle.text.specs.Printing.{printOf, printedNumber, printedLength}
+use Rattle.text.specs.declared.Printed.{Printed}
+use Rattle.text.specs.declared.Printed.the-variants.{Length, Refused as NotPrinted}
+use Rattle.text.proofs.Theorems.{prints}
+use Rattle.replay.specs.Execution.{outcomeNumber}
+use Rattle.replay.specs.Lists.{mostWords, runOf}
+use Rattle.replay.specs.declared.Bench.{Bench}
+use Rattle.replay.specs.declared.Ended.{Ended}
+use Rattle.replay.proofs.Theorems.{runs}
+use Rattle.birdaghol.specs.Calls.{packed, packedPrinted, packedEncoded, runCall}
+
+value-alone : (v : ℕ) → v * 256 ≡ packed v 0
+value-alone v = omega arith
+
+refusal-alone : (n : ℕ) → n ≡ packed 0 n
+refusal-alone n = omega arith
+
+pub printed-value : (a : Printed) (n : ℕ) → a ≡ Length n → n * 256 ≡ packedPrinted a
+printed-value a n e = value-alone n ∙ sym (ap packedPrinted e)
+
+pub printed-refusal : (a : Printed) (r : Refusal) → a ≡ NotPrinted r → number r ≡ packedPrinted a
+printed-refusal a r e = refusal-alone (number r) ∙ sym (ap packedPrinted e)
+
+pub encoded-value : (a : Encoded) (w : ℕ) → a ≡ Word w → w * 256 ≡ packedEncoded a
+encoded-value a w e = value-alone w ∙ sym (ap packedEncoded e)
+
+pub encoded-refusal : (a : Encoded) (r : Refusal) → a ≡ NotEncoded r → number r ≡ packedEncoded a
+encoded-refusal a r e = refusal-alone (number r) ∙ sym (ap packedEncoded e)
+
+pub printed-short : (flags w : ℕ) (room : List ℕ) (n : ℕ) → printOf flags w (length room) ≡ Length n → n ≤ 63
+printed-short flags w room n e =
+    let h = prints flags w room .printed (ap printedNumber e) .most in
+    let l = ap printedLength e in
+    omega arith
+
+pub run-short : (b : Bench) (z p za ws : List ℕ) (e : Ended) → e ≡ runOf b z p za ws → e .count ≤ mostWords
+run-short b z p za ws e h = subst (λ (e : Ended). e .count ≤ mostWords) (sym h) (runs b z p za ws .most)
+
+pub ended-packed : (b : Bench) (z p za ws : List ℕ) (e : Ended) (n : ℕ) → e ≡ runOf b z p za ws → n ≡ outcomeNumber (e .outcome) → packed (e .count) n ≡ runCall b z p za ws
+ended-packed b z p za ws e n h k = ap (packed (e .count)) k ∙ ap (λ (e : Ended). packed (e .count) (outcomeNumber (e .outcome))) h

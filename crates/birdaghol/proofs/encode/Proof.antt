@@ -1,0 +1,26 @@
+-- `birdaghol::encode` meets its contract: encode's answer, packed. Assumes nothing.
+use mathlib.Core.Path.{_∙_, sym}
+use Rattle.birdaghol.proofs.Packing.{encoded-value, encoded-refusal}
+use borrow.Author.Needs.{needs}
+use Rattle.birdaghol.proofs.encode.Statement.{statement}
+use Rattle.birdaghol.proofs.encode.Tie as tie
+
+returns : tie.Need-returns
+returns c = encoded-value _ _ (sym (c .before .before .before .encode .ensures) ∙ c .before .w .given .1)
+
+returns-2 : tie.Need-returns-2
+returns-2 c = c .number .ensures ∙ encoded-refusal _ _ (sym (c .before .before .before .before .encode .ensures) ∙ c .before .before .r .given .1)
+
+pub encode-spec : {M : Type 1} → statement M
+encode-spec =
+    tie.close
+    (tie.spec
+    (λ c κs. search needs)
+    (λ c. search needs)
+    (λ c. search needs)
+    (λ c. search needs)
+    (λ c. search needs)
+    (λ c κs. search needs)
+    (λ c. search needs)
+    returns
+    returns-2)

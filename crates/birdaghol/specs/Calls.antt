@@ -1,0 +1,57 @@
+-- What each exported function answers, as one number: value · 256 + refusal, where there is a value.
+use mathlib.Core.Bool.{Bool, cond, _||_}
+use mathlib.Core.List.{List}
+use mathlib.Core.Option.{Option, none, some}
+use Prim.Native.Nat.{ℕ, _+_, _*_}
+use lib.Dec.{eqb}
+use Rattle.isa.specs.Refusals.{number}
+use Rattle.isa.specs.Answers.{encodeOf, encodedNumber, encodedWord}
+use Rattle.isa.specs.declared.Operation.{Operation}
+use Rattle.isa.specs.declared.Instruction.{Instruction}
+use Rattle.isa.specs.declared.Instruction.the-variants.{Predicated, Quarter}
+use Rattle.isa.specs.declared.Encoded.{Encoded}
+use Rattle.isa.specs.declared.Refusal.the-variants.{OutOfRange}
+use Rattle.isa.specs.Table.{source}
+use Rattle.text.specs.Printing.{printOf, printedNumber, printedLength}
+use Rattle.text.specs.declared.Printed.{Printed}
+use Rattle.replay.specs.declared.Bench.{Bench}
+use Rattle.replay.specs.Claims.{runNumber, runCount}
+
+abbrev pub packed : ℕ → ℕ → ℕ
+packed value refusal = value * 256 + refusal
+
+-- ---- print
+abbrev pub packedPrinted : Printed → ℕ
+packedPrinted a = packed (printedLength a) (printedNumber a)
+
+abbrev pub printCall : ℕ → ℕ → ℕ → ℕ
+printCall flags w room = packedPrinted (printOf flags w room)
+
+-- ---- encode: what the arguments describe, by the bytes of a tile's element; sizes other than 4 and 8 describe nothing
+abbrev pub sized : ℕ → Instruction → Option Instruction
+sized bytes i = cond (eqb bytes 4 || eqb bytes 8) (some i) none
+
+abbrev pub operation : ℕ → Bool → Bool → Bool → Operation
+operation bytes u0 u1 subtract = record { wide = eqb bytes 8; u0 = u0; u1 = u1; subtract = subtract }
+
+abbrev pub predicatedCall : ℕ → Bool → Bool → Bool → ℕ → ℕ → ℕ → ℕ → ℕ → Option Instruction
+predicatedCall bytes u0 u1 subtract tile pn pm zn zm =
+    sized bytes (Predicated (operation bytes u0 u1 subtract) (record { 0 = tile }) (record { 0 = pn }) (record { 0 = pm }) (record { 0 = zn }) (record { 0 = zm }))
+
+abbrev pub quarterCall : ℕ → Bool → Bool → Bool → ℕ → ℕ → Bool → ℕ → Bool → Option Instruction
+quarterCall bytes u0 u1 subtract tile first firstPair second secondPair =
+    sized bytes (Quarter (operation bytes u0 u1 subtract) (record { 0 = tile }) (source firstPair first) (source secondPair second))
+
+abbrev pub packedEncoded : Encoded → ℕ
+packedEncoded a = packed (encodedWord a) (encodedNumber a)
+
+abbrev pub encodeCall : Option Instruction → ℕ
+encodeCall none = packed 0 (number OutOfRange)
+encodeCall (some i) = packedEncoded (encodeOf i)
+
+-- ---- execute and run
+abbrev pub benchOf : ℕ → Bool → Bool → ℕ → Bench
+benchOf flags streaming zaOn vb = record { flags = flags; sm = streaming; za = zaOn; vb = vb }
+
+abbrev pub runCall : Bench → List ℕ → List ℕ → List ℕ → List ℕ → ℕ
+runCall b z p za ws = packed (runCount b z p za ws) (runNumber b z p za ws)

@@ -1,0 +1,55 @@
+/* Birdaghol for C: Arm SME integer outer products, decoded, encoded, printed and replayed by proved code.
+   Link target/staticlib/libbirdaghol.a, which `rt staticlib birdaghol` writes.
+
+   Flags are the sum of the features that are on: 1 SME, 2 I16I64, 4 MOP4.
+   Refusals: 1 flags above 7; 2 vb not 16, 32, 64, 128 or 256; 3, 4, 5 the length of z, p, za; 6 over 4,096 words;
+   7 no listed word; 8 a feature is off; 9 streaming mode is off; 10 ZA is off; 11 a field is out of range; 12 no room.
+   An answer of 64 bits is value * 256 + refusal: BIRDAGHOL_VALUE and BIRDAGHOL_REFUSAL take it apart.
+
+   What the proofs take as given, and every caller owes: a pointer is not NULL, whatever its length, and good for that
+   many elements; a buffer that is written overlaps no other, and nothing else touches it during the call. */
+#ifndef BIRDAGHOL_H
+#define BIRDAGHOL_H
+
+#include <stdbool.h>
+#include <stddef.h>
+#include <stdint.h>
+
+#ifdef __cplusplus
+extern "C" {
+#endif
+
+#define BIRDAGHOL_VALUE(answer) ((answer) / 256)
+#define BIRDAGHOL_REFUSAL(answer) ((answer) % 256)
+
+/* 0 where the word is an instruction with these features, else the refusal: 1, 7 or 8. */
+uint32_t birdaghol_decode(uint32_t flags, uint32_t word);
+
+/* Puts the text of a word, 63 bytes at most and no 0 after it, at the start of room. Value: its length. */
+uint64_t birdaghol_print(uint32_t flags, uint32_t word, uint8_t *room, size_t room_len);
+
+/* The word of a predicated outer product on a tile whose elements have 4 or 8 bytes. Value: the word. Refusal: 11. */
+uint64_t birdaghol_encode_predicated(uint32_t element_bytes, bool first_unsigned, bool second_unsigned, bool subtract,
+                                     uint32_t tile, uint32_t pn, uint32_t pm, uint32_t zn, uint32_t zm);
+
+/* The word of a quarter-tile outer product; a pair is given by its first register. Value: the word. Refusal: 11. */
+uint64_t birdaghol_encode_quarter(uint32_t element_bytes, bool first_unsigned, bool second_unsigned, bool subtract,
+                                  uint32_t tile, uint32_t first, bool first_pair, uint32_t second, bool second_pair);
+
+/* The word of a ZERO of the 64-bit tiles whose bits are set. Value: the word. */
+uint64_t birdaghol_encode_zero(uint8_t mask);
+
+/* Executes a word on za: 0, or the refusal, which leaves za as it was. */
+uint32_t birdaghol_execute(uint32_t flags, bool streaming, bool za_on, size_t vb, const uint8_t *z, size_t z_len,
+                           const uint8_t *p, size_t p_len, uint8_t *za, size_t za_len, uint32_t word);
+
+/* Executes words in turn, up to the first that is refused. Value: how many were executed, beside a refusal too. */
+uint64_t birdaghol_run(uint32_t flags, bool streaming, bool za_on, size_t vb, const uint8_t *z, size_t z_len,
+                       const uint8_t *p, size_t p_len, uint8_t *za, size_t za_len, const uint32_t *words,
+                       size_t words_len);
+
+#ifdef __cplusplus
+}
+#endif
+
+#endif

@@ -1,0 +1,109 @@
+//! Times the library beside the independent account, which is an ordinary Rust program, in one process and by turns.
+
+#[allow(dead_code, unused_imports)]
+#[path = "../tests/pseudocode/mod.rs"]
+mod pseudocode;
+#[allow(dead_code, unused_imports)]
+#[path = "../tests/sample/mod.rs"]
+mod sample;
+
+use birdaghol::{Bench, Ended};
+use sample::Random;
+use std::hint::black_box;
+use std::time::Instant;
+
+/// Words for each rate.
+const WORDS: u64 = 200_000;
+
+/// Prints one table: the runs first, then the rates.
+fn main() {
+    println!("{:<26}{:>12}{:>16}{:>8}", "", "library", "ordinary Rust", "ratio");
+    for (vb, rounds) in [(16, 500), (256, 50)] {
+        let times = run(vb, rounds);
+        row(&format!("run, 4096 words, VB {vb}"), "ms", times.map(|seconds| seconds * 1e3));
+    }
+    let random = &mut Random::new(1);
+    let listed: Vec<u32> = (0..WORDS).map(|_| sample::listed(random)).collect();
+    let any: Vec<u32> = (0..WORDS).map(|_| random.u32()).collect();
+    for (mix, words) in [("listed words", listed), ("random words", any)] {
+        row(&format!("decode, {mix}"), "M/s", decode(&words).map(rate));
+        row(&format!("print, {mix}"), "M/s", print(&words).map(rate));
+    }
+    println!("A ratio is the library's time divided by that of the ordinary program.");
+}
+
+/// One line of the table; where figures are rates, the ratio of times is that of the rates turned over.
+fn row(name: &str, unit: &str, [library, ordinary]: [f64; 2]) {
+    let ratio = if unit == "ms" { library / ordinary } else { ordinary / library };
+    println!("{name:<26}{library:>8.3} {unit:<3}{ordinary:>12.3} {unit:<3}{ratio:>8.2}");
+}
+
+/// Millions of words a second.
+fn rate(seconds: f64) -> f64 {
+    WORDS as f64 / seconds / 1e6
+}
+
+/// The list that the bench is measured by: ZERO of all, then two outer products in turn.
+fn words() -> Vec<u32> {
+    let products = [0xA1A0_0000, 0xA0C0_0018].into_iter().cycle().take(4095);
+    [0xC008_00FF].into_iter().chain(products).collect()
+}
+
+/// Times both runs of the list with all predicate bits set, and makes sure that they end alike.
+fn run(vb: usize, rounds: usize) -> [f64; 2] {
+    let z: Vec<u8> = (0..32 * vb).map(|i| (i % 251) as u8).collect();
+    let p = vec![0xFF; 2 * vb];
+    let (mut za, mut ordinary_za) = (vec![0xA5; vb * vb], vec![0xA5; vb * vb]);
+    let words = words();
+    let bench = Bench { flags: 7, streaming: true, za_on: true, vb };
+    let ordinary_bench = pseudocode::Bench { flags: 7, streaming: true, za_on: true, vb };
+
+    let times = race(
+        rounds,
+        || {
+            let ended = birdaghol::run(black_box(bench), &z, &p, &mut za, black_box(&words));
+            assert_eq!(ended, Ended { count: 4096, refusal: None });
+        },
+        || {
+            let ended = pseudocode::run(black_box(ordinary_bench), &z, &p, &mut ordinary_za, black_box(&words));
+            assert_eq!(ended, (4096, 0));
+        },
+    );
+    assert!(za == ordinary_za, "the two runs end with different ZA");
+    times
+}
+
+/// Times both decoders over the words.
+fn decode(words: &[u32]) -> [f64; 2] {
+    let each = |accepts: fn(u32) -> bool| words.iter().filter(|&&word| accepts(black_box(word))).count();
+    let library = || each(|word| birdaghol::decode(7, word).is_ok());
+    let ordinary = || each(|word| black_box(pseudocode::decode(7, word)).is_ok());
+    assert_eq!(library(), ordinary());
+    race(20, || _ = black_box(library()), || _ = black_box(ordinary()))
+}
+
+/// Times both printers over the words, with a room that is long enough.
+fn print(words: &[u32]) -> [f64; 2] {
+    let each = |length: fn(u32, &mut [u8]) -> usize| {
+        let room = &mut [0; 64];
+        words.iter().map(|&word| length(black_box(word), black_box(room))).sum::<usize>()
+    };
+    let library = || each(|word, room| birdaghol::print(7, word, room).unwrap_or(0));
+    let ordinary = || each(|word, room| pseudocode::print(7, word, room).unwrap_or(0));
+    assert_eq!(library(), ordinary());
+    race(20, || _ = black_box(library()), || _ = black_box(ordinary()))
+}
+
+/// The best time of each side in seconds, taken by turns so that both meet the same machine.
+fn race(rounds: usize, mut library: impl FnMut(), mut ordinary: impl FnMut()) -> [f64; 2] {
+    (0..rounds).fold([f64::INFINITY; 2], |[first, second], _| {
+        [first.min(seconds(&mut library)), second.min(seconds(&mut ordinary))]
+    })
+}
+
+/// The time that some work takes.
+fn seconds(work: &mut impl FnMut()) -> f64 {
+    let start = Instant::now();
+    work();
+    start.elapsed().as_secs_f64()
+}

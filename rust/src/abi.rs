@@ -1,0 +1,63 @@
+//! The functions of the static library as C sees them: a buffer is its address and its length. A result of 64 bits is
+//! a value times 256, plus the refusal's number; one of 32 bits is that number alone.
+
+unsafe extern "C" {
+    pub safe fn birdaghol_decode(flags: u32, word: u32) -> u32;
+
+    pub fn birdaghol_print(flags: u32, word: u32, room: *mut u8, room_len: usize) -> u64;
+
+    pub safe fn birdaghol_encode_predicated(
+        element_bytes: u32,
+        first_unsigned: bool,
+        second_unsigned: bool,
+        subtract: bool,
+        tile: u32,
+        pn: u32,
+        pm: u32,
+        zn: u32,
+        zm: u32,
+    ) -> u64;
+
+    pub safe fn birdaghol_encode_quarter(
+        element_bytes: u32,
+        first_unsigned: bool,
+        second_unsigned: bool,
+        subtract: bool,
+        tile: u32,
+        first: u32,
+        first_pair: bool,
+        second: u32,
+        second_pair: bool,
+    ) -> u64;
+
+    pub safe fn birdaghol_encode_zero(mask: u8) -> u64;
+
+    pub fn birdaghol_execute(
+        flags: u32,
+        streaming: bool,
+        za_on: bool,
+        vb: usize,
+        z: *const u8,
+        z_len: usize,
+        p: *const u8,
+        p_len: usize,
+        za: *mut u8,
+        za_len: usize,
+        word: u32,
+    ) -> u32;
+
+    pub fn birdaghol_run(
+        flags: u32,
+        streaming: bool,
+        za_on: bool,
+        vb: usize,
+        z: *const u8,
+        z_len: usize,
+        p: *const u8,
+        p_len: usize,
+        za: *mut u8,
+        za_len: usize,
+        words: *const u32,
+        words_len: usize,
+    ) -> u64;
+}

@@ -1,0 +1,193 @@
+//! Holds the library against the independent account of the instructions, on random input of every sort.
+
+mod pseudocode;
+mod sample;
+
+use birdaghol::{Bench, Operation, Refusal, Source};
+use pseudocode::{Instruction, Sources};
+use sample::{Case, Guarded, Random, Tally, seeds};
+use std::fmt::Debug;
+
+/// The vector lengths, short ones more often.
+const LENGTHS: [usize; 9] = [16, 16, 16, 32, 32, 64, 64, 128, 256];
+
+/// A word gets the same answer under any flags.
+#[test]
+fn decode() {
+    let mut tally = Tally::default();
+    for seed in seeds(2_000_000) {
+        let random = &mut Random::new(seed);
+        let (flags, word) = (sample::flags(random), sample::word(random, 4));
+        let expected = pseudocode::decode(flags, word).map(|_| ());
+        let answer = birdaghol::decode(flags, word).map_err(Refusal::number);
+        assert_eq!(answer, expected, "seed {seed}: flags {flags}, word {word:08x}");
+        tally.count(word, &expected);
+    }
+    tally.assert_covers(&[1, 7, 8], 10_000);
+}
+
+/// A room of any length gets the same text, or stays as it was.
+#[test]
+fn print() {
+    let mut tally = Tally::default();
+    for seed in seeds(500_000) {
+        let random = &mut Random::new(seed);
+        let (flags, word) = (sample::flags(random), sample::word(random, 6));
+        let length = random.below(71) as usize;
+        let mut text = random.bytes(length);
+        let mut room = Guarded::new(&text);
+        let case = format!("seed {seed}: flags {flags}, word {word:08x}, room {length}");
+
+        let expected = pseudocode::print(flags, word, &mut text);
+        let answer = birdaghol::print(flags, word, room.lend()).map_err(Refusal::number);
+        assert_eq!(answer, expected, "{case}");
+        assert!(room.holds(&text), "{case}: other bytes");
+        tally.count(word, &expected);
+    }
+    tally.assert_covers(&[1, 7, 8, 12], 5_000);
+}
+
+/// Fields in range get the same word, others are refused.
+#[test]
+fn encode() {
+    let mut tally = Tally::default();
+    for seed in seeds(1_000_000) {
+        let instruction = sample::instruction(&mut Random::new(seed));
+        let expected = pseudocode::encode(instruction);
+        let answer = encoded(instruction).map_err(Refusal::number);
+        assert_eq!(answer, expected, "seed {seed}: {instruction:?}");
+        tally.count(expected.unwrap_or(0), &expected);
+    }
+    tally.assert_covers(&[11], 10_000);
+}
+
+/// The fields of a listed word are those of no other.
+#[test]
+fn encode_undoes_decode() {
+    for seed in seeds(500_000) {
+        let word = sample::listed(&mut Random::new(seed));
+        let instruction = pseudocode::decode(7, word).expect("a listed word");
+        assert_eq!(encoded(instruction), Ok(word), "seed {seed}: {instruction:?}");
+    }
+}
+
+/// One word leaves the same ZA, on benches right and wrong.
+#[test]
+fn execute() {
+    let mut tally = Tally::default();
+    for seed in seeds(200_000) {
+        let random = &mut Random::new(seed);
+        let case = Case::new(random, &LENGTHS);
+        let word = sample::word(random, 7);
+        let expected = compare(
+            &case,
+            &format!("seed {seed}: {:?}, word {word:08x}", case.bench),
+            |z, p, za| pseudocode::execute(case.bench, z, p, za, word),
+            |z, p, za| birdaghol::execute(bench(&case), z, p, za, word).map_err(Refusal::number),
+        );
+        tally.count(word, &expected);
+        tally.accept_at(case.bench.vb, expected.iter().count());
+    }
+    tally.assert_covers(&[1, 2, 3, 4, 5, 7, 8, 9, 10], 500);
+    tally.assert_lengths(5_000);
+}
+
+/// A list stops at the same word and leaves the same ZA.
+#[test]
+fn run() {
+    let mut tally = Tally::default();
+    for seed in seeds(40_000) {
+        let random = &mut Random::new(seed);
+        let case = Case::new(random, &LENGTHS);
+        let length = if random.chance(50) { 4097 + random.below(99) } else { random.below(33) };
+        let good = random.pick(&[7, 8]);
+        let words: Vec<u32> = (0..length).map(|_| sample::word(random, good)).collect();
+        let (count, number) = run_both(seed, &case, &words);
+        words[..count].iter().for_each(|&word| tally.accept(word));
+        tally.accept_at(case.bench.vb, count);
+        if number != 0 {
+            tally.refuse(number);
+        }
+    }
+    tally.assert_covers(&[1, 2, 3, 4, 5, 6, 7, 8, 9, 10], 100);
+    tally.assert_lengths(5_000);
+}
+
+/// The longest list is run, one word more is refused.
+#[test]
+fn run_longest_lists() {
+    let mut ends = Vec::new();
+    for seed in seeds(200) {
+        let random = &mut Random::new(seed);
+        let case = Case::new(random, &[16]);
+        let words: Vec<u32> = (0..4097).map(|_| sample::listed(random)).collect();
+        ends.push(run_both(seed, &case, &words[..4096]));
+        ends.push(run_both(seed, &case, &words));
+    }
+    for end in [(4096, 0), (0, 6)] {
+        assert!(ends.iter().filter(|&&e| e == end).count() >= 50, "{end:?} is too rare");
+    }
+}
+
+/// Runs a list on both sides: the number of words executed, and the refusal or 0.
+fn run_both(seed: u64, case: &Case, words: &[u32]) -> (usize, u32) {
+    let before = words.to_vec();
+    let label = format!("seed {seed}: {:?}, {} words", case.bench, words.len());
+    let ended = compare(
+        case,
+        &label,
+        |z, p, za| pseudocode::run(case.bench, z, p, za, words),
+        |z, p, za| {
+            let ended = birdaghol::run(bench(case), z, p, za, words);
+            (ended.count, ended.refusal.map_or(0, Refusal::number))
+        },
+    );
+    assert_eq!(words, before, "{label}: the list was written");
+    ended
+}
+
+/// Gives both sides the same buffers, and compares their answers and every byte that they leave.
+fn compare<T: PartialEq + Debug>(
+    case: &Case,
+    label: &str,
+    reference: impl FnOnce(&[u8], &[u8], &mut [u8]) -> T,
+    library: impl FnOnce(&[u8], &[u8], &mut [u8]) -> T,
+) -> T {
+    let mut left = case.za.clone();
+    let expected = reference(&case.z, &case.p, &mut left);
+    let [mut z, mut p, mut za] = [&case.z, &case.p, &case.za].map(|bytes| Guarded::new(bytes));
+    let answer = library(z.lend(), p.lend(), za.lend());
+    assert_eq!(answer, expected, "{label}");
+    assert!(za.holds(&left), "{label}: another ZA, or a guard fell");
+    assert!(z.holds(&case.z) && p.holds(&case.p), "{label}: Z or P was written");
+    expected
+}
+
+/// The library's bench for a case.
+fn bench(case: &Case) -> Bench {
+    Bench { flags: case.bench.flags, streaming: case.bench.streaming, za_on: case.bench.za_on, vb: case.bench.vb }
+}
+
+/// The library's word for an instruction of the independent account.
+fn encoded(instruction: Instruction) -> Result<u32, Refusal> {
+    let op = match instruction {
+        Instruction::Outer(op) => op,
+        Instruction::Zero { mask } => return birdaghol::encode_zero(mask),
+    };
+    let operation = Operation {
+        element_bytes: op.element_bytes,
+        first_unsigned: op.first_unsigned,
+        second_unsigned: op.second_unsigned,
+        subtract: op.subtract,
+    };
+    let source = |pseudocode::Source { register, pair }| match pair {
+        false => Source::One(register),
+        true => Source::Pair(register),
+    };
+    match op.sources {
+        Sources::Predicated { pn, pm, zn, zm } => birdaghol::encode_predicated(operation, op.tile, pn, pm, zn, zm),
+        Sources::Quarter { first, second } => {
+            birdaghol::encode_quarter(operation, op.tile, source(first), source(second))
+        }
+    }
+}

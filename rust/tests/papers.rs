@@ -1,0 +1,109 @@
+//! The bench examples of the rules, through the safe functions.
+
+use birdaghol::{Bench, Ended, Refusal, decode, execute, print, run};
+
+/// Every feature and both modes on, vectors of 16 bytes.
+const BENCH: Bench = Bench { flags: 7, streaming: true, za_on: true, vb: 16 };
+
+/// ZERO of all, and outer products of z0 and z1 into tile 0 under p0 and p1.
+const SUMOPA: u32 = 0xA0A1_2000;
+const SUMOPS: u32 = 0xA0A1_2010;
+const UMOPA: u32 = 0xA1A1_2000;
+const UMOPA_WIDE: u32 = 0xA1E1_2000;
+const ZERO: u32 = 0xC008_00FF;
+
+/// The text of a word.
+fn text(flags: u32, word: u32) -> Result<String, Refusal> {
+    let mut room = [0; 63];
+    let length = print(flags, word, &mut room)?;
+    Ok(String::from_utf8_lossy(&room[..length]).into_owned())
+}
+
+/// ZA after words at VB 16 with all predicate bits set, from vectors z0 and z1 and the first bytes of ZA.
+fn replay(z0: [u8; 16], z1: [u8; 16], start: &[u8], words: &[u32]) -> Vec<u8> {
+    let mut z = [z0, z1].concat();
+    z.resize(512, 0);
+    let mut za = start.to_vec();
+    za.resize(256, 0);
+    let ended = run(BENCH, &z, &[0xFF; 32], &mut za, words);
+    assert_eq!(ended, Ended { count: words.len(), refusal: None });
+    za
+}
+
+/// A vector of zeros but for a 1 in one byte.
+fn one(byte: usize) -> [u8; 16] {
+    let mut vector = [0; 16];
+    vector[byte] = 1;
+    vector
+}
+
+#[test]
+fn texts_and_refused_words() {
+    for (word, line) in [
+        (0xA0A0_0010, "sumops za0.s, p0/m, p0/m, z0.b, z0.b"),
+        (0xA0B1_A873, "sumops za3.s, p2/m, p5/m, z3.b, z17.b"),
+        (0x811E_8352, "usmop4s za2.s, { z10.b-z11.b }, { z30.b-z31.b }"),
+        (0x8100_8010, "usmop4s za0.s, z0.b, z16.b"),
+        (0xA0E0_0018, "sumop4s za0.d, z0.h, z16.h"),
+        (0xC008_0011, "zero { za0.d, za4.d }"),
+        (0xC008_0000, "zero {}"),
+    ] {
+        assert_eq!(text(7, word).as_deref(), Ok(line));
+    }
+    for word in [0x8100_0010, 0xA0E1_0018, 0xA0E0_0038, 0xC008_0100] {
+        assert_eq!(decode(7, word), Err(Refusal::Unlisted));
+    }
+    assert_eq!(decode(4, 0xA1C0_001F), Err(Refusal::FeatureOff));
+    assert_eq!(text(6, 0xA1C0_001F).as_deref(), Ok("usmop4s za7.d, z0.h, z16.h"));
+}
+
+#[test]
+fn tile_addresses() {
+    let changed = |word, first, second| {
+        let za = replay(one(first), one(second), &[], &[word]);
+        (0..256).filter(|&byte| za[byte] != 0).collect::<Vec<_>>()
+    };
+    assert_eq!(changed(UMOPA + 1, 8, 12), [156], "za1.s (2, 3)");
+    assert_eq!(changed(UMOPA_WIDE + 5, 8, 8), [216], "za5.d (1, 1)");
+    assert_eq!(replay([1; 16], [1; 16], &[7; 256], &[UMOPA, ZERO]), [0; 256]);
+}
+
+#[test]
+fn totals_and_carries() {
+    for (word, total) in [(SUMOPA, 0xFFFF_FC04_u32), (SUMOPS, 1020), (UMOPA, 260_100)] {
+        let za = replay([0xFF; 16], [0xFF; 16], &[], &[word]);
+        assert_eq!(za[..4], total.to_le_bytes());
+    }
+    let za = replay(one(0), one(0), &[0xFF; 256], &[UMOPA]);
+    assert_eq!((&za[..4], &za[4..]), (&[0; 4][..], &[0xFF; 252][..]));
+
+    let start = 0xFFFF_FFFF_u64.to_le_bytes();
+    assert_eq!(replay(one(0), one(0), &start, &[UMOPA, UMOPA_WIDE])[..8], 1_u64.to_le_bytes());
+    assert_eq!(replay(one(0), one(0), &start, &[UMOPA_WIDE, UMOPA])[..8], 0x1_0000_0001_u64.to_le_bytes());
+}
+
+#[test]
+fn an_empty_predicate_changes_nothing() {
+    let mut p = [0xFF; 32];
+    p[2..4].fill(0);
+    let mut za = [7; 256];
+    assert_eq!(execute(BENCH, &[0xFF; 512], &p, &mut za, UMOPA), Ok(()));
+    assert_eq!(za, [7; 256]);
+}
+
+#[test]
+fn lengths_and_modes() {
+    let try_word = |bench, word| execute(bench, &[0; 512], &[0; 32], &mut [0; 256], word);
+    for vb in [15, 17] {
+        assert_eq!(try_word(Bench { vb, ..BENCH }, ZERO), Err(Refusal::VectorLength));
+    }
+    let paused = Bench { streaming: false, ..BENCH };
+    let off = Bench { za_on: false, ..paused };
+    assert_eq!(try_word(paused, ZERO), Ok(()));
+    assert_eq!(try_word(off, 0xA080_0000), Err(Refusal::StreamingOff));
+    assert_eq!(try_word(off, ZERO), Err(Refusal::ZaOff));
+
+    let list = |length| run(BENCH, &[0; 512], &[0; 32], &mut [0; 256], &vec![ZERO; length]);
+    assert_eq!(list(4096), Ended { count: 4096, refusal: None });
+    assert_eq!(list(4097), Ended { count: 0, refusal: Some(Refusal::ListLength) });
+}

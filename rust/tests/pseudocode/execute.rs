@@ -1,0 +1,160 @@
+//! One word executed, and a list of words run, on lent vectors, predicates and ZA.
+
+use super::{Instruction, OuterProduct, Source, Sources, decode};
+use std::array;
+
+/// What all words of a list are executed with: features, modes, and the vector length in bytes.
+#[derive(Clone, Copy, Debug)]
+pub struct Bench {
+    pub flags: u32,
+    pub streaming: bool,
+    pub za_on: bool,
+    pub vb: usize,
+}
+
+/// A source as signed numbers: the four elements that meet each row or column of the tile.
+type Fours = Vec<[i32; 4]>;
+
+/// Executes one word, or refuses it by 1 to 5 or 7 to 10.
+pub fn execute(bench: Bench, z: &[u8], p: &[u8], za: &mut [u8], word: u32) -> Result<(), u32> {
+    check(bench, z, p, za)?;
+    step(bench, z, p, za, word)
+}
+
+/// Runs a list up to the first word refused: the number of words executed, and the refusal or 0.
+pub fn run(bench: Bench, z: &[u8], p: &[u8], za: &mut [u8], words: &[u32]) -> (usize, u32) {
+    if let Err(refusal) = check(bench, z, p, za) {
+        return (0, refusal);
+    }
+    if words.len() > 4096 {
+        return (0, 6);
+    }
+    for (count, &word) in words.iter().enumerate() {
+        if let Err(refusal) = step(bench, z, p, za, word) {
+            return (count, refusal);
+        }
+    }
+    (words.len(), 0)
+}
+
+/// Refusals 1 to 5, which no word has a part in.
+fn check(bench: Bench, z: &[u8], p: &[u8], za: &[u8]) -> Result<(), u32> {
+    let vb = bench.vb;
+    if bench.flags > 7 {
+        Err(1)
+    } else if ![16, 32, 64, 128, 256].contains(&vb) {
+        Err(2)
+    } else if z.len() != 32 * vb {
+        Err(3)
+    } else if p.len() != 2 * vb {
+        Err(4)
+    } else if za.len() != vb * vb {
+        Err(5)
+    } else {
+        Ok(())
+    }
+}
+
+/// Executes one word on buffers of the right lengths, or refuses it by 7 to 10.
+fn step(bench: Bench, z: &[u8], p: &[u8], za: &mut [u8], word: u32) -> Result<(), u32> {
+    let instruction = decode(bench.flags, word)?;
+    if matches!(instruction, Instruction::Outer(_)) && !bench.streaming {
+        return Err(9);
+    }
+    if !bench.za_on {
+        return Err(10);
+    }
+    match instruction {
+        Instruction::Outer(op) if op.element_bytes == 4 => update::<4>(op, z, p, za, bench.vb),
+        Instruction::Outer(op) => update::<8>(op, z, p, za, bench.vb),
+        Instruction::Zero { mask } => clear(mask, za, bench.vb),
+    }
+    Ok(())
+}
+
+/// Clears the rows of the 64-bit tiles whose bits are set; every eighth row of ZA belongs to the same one.
+fn clear(mask: u8, za: &mut [u8], vb: usize) {
+    for (row, line) in za.chunks_exact_mut(vb).enumerate() {
+        if mask >> (row % 8) & 1 == 1 {
+            line.fill(0);
+        }
+    }
+}
+
+/// Reads the sources of an outer product and adds their products to its tile, whose elements have E bytes.
+fn update<const E: usize>(op: OuterProduct, z: &[u8], p: &[u8], za: &mut [u8], vb: usize) {
+    let vectors = |n: u32, count: usize| &z[n as usize * vb..][..count * vb];
+    let (mut first, second) = match op.sources {
+        Sources::Predicated { pn, pm, zn, zm } => (
+            fours::<E>(vectors(zn, 1), op.first_unsigned, |byte| is_set(p, pn, byte, vb)),
+            fours::<E>(vectors(zm, 1), op.second_unsigned, |byte| is_set(p, pm, byte, vb)),
+        ),
+        Sources::Quarter { first, second } => {
+            let all = |Source { register, pair }| vectors(register, if pair { 2 } else { 1 });
+            (fours::<E>(all(first), op.first_unsigned, |_| true), fours::<E>(all(second), op.second_unsigned, |_| true))
+        }
+    };
+    if op.subtract {
+        first.iter_mut().flatten().for_each(|element| *element = -*element);
+    }
+    add_products::<E>(&first, &second, op.tile as usize, za, vb);
+}
+
+/// Whether predicate `n` holds the bit of a vector's byte.
+fn is_set(p: &[u8], n: u32, byte: usize, vb: usize) -> bool {
+    p[n as usize * (vb / 8) + byte / 8] >> (byte % 8) & 1 == 1
+}
+
+/// The elements of a source, each of E/4 bytes; one is active by the bit of its first byte, and counts as 0 if it is not.
+fn fours<const E: usize>(source: &[u8], unsigned: bool, active: impl Fn(usize) -> bool) -> Fours {
+    let element = |at: usize| {
+        if active(at) { number(&source[at..at + E / 4], unsigned) } else { 0 }
+    };
+    let starts = (0..source.len()).step_by(E);
+    starts.map(|start| array::from_fn(|k| element(start + k * E / 4))).collect()
+}
+
+/// An element of one or two bytes as a signed number.
+fn number(element: &[u8], unsigned: bool) -> i32 {
+    match *element {
+        [byte] if unsigned => byte.into(),
+        [byte] => (byte as i8).into(),
+        [low, high] if unsigned => u16::from_le_bytes([low, high]).into(),
+        [low, high] => i16::from_le_bytes([low, high]).into(),
+        _ => unreachable!("source elements have one or two bytes"),
+    }
+}
+
+/// Adds to each element of the tile its four products. The column half picks the first register, the row half the second.
+fn add_products<const E: usize>(first: &[[i32; 4]], second: &[[i32; 4]], tile: usize, za: &mut [u8], vb: usize) {
+    let dim = vb / E;
+    for row in 0..dim {
+        let line = &mut za[(row * E + tile) * vb..][..vb];
+        let second = register(second, 2 * row / dim, dim);
+        for (half, elements) in line.chunks_exact_mut(vb / 2).enumerate() {
+            let first = register(first, half, dim)[row];
+            let columns = &second[half * dim / 2..];
+            for (element, column) in elements.as_chunks_mut::<E>().0.iter_mut().zip(columns) {
+                add(element, dot(&first, column));
+            }
+        }
+    }
+}
+
+/// The register of a source that serves one half of the tile: its own of a pair, otherwise the only one.
+fn register(source: &[[i32; 4]], half: usize, dim: usize) -> &[[i32; 4]] {
+    &source[half * (source.len() - dim)..][..dim]
+}
+
+/// The sum of four products, none of which is cut.
+fn dot(first: &[i32; 4], second: &[i32; 4]) -> i64 {
+    (0..4).map(|k| i64::from(first[k]) * i64::from(second[k])).sum()
+}
+
+/// Adds to a little-endian element modulo 2 to the power of its bits.
+fn add<const E: usize>(element: &mut [u8; E], sum: i64) {
+    let mut wide = [0; 8];
+    wide[..E].copy_from_slice(element);
+    let wide = i64::from_le_bytes(wide).wrapping_add(sum).to_le_bytes();
+    element.copy_from_slice(&wide[..E]);
+}

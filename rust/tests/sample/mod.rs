@@ -1,0 +1,60 @@
+//! Repeatable random inputs, buffers with guards around them, and a tally of what the cases came to.
+
+mod case;
+mod guarded;
+mod instruction;
+mod random;
+mod tally;
+
+pub use case::Case;
+pub use guarded::Guarded;
+pub use instruction::instruction;
+pub use random::Random;
+pub use tally::Tally;
+
+use std::env;
+use std::ops::Range;
+
+/// The five lines of the encoding table: the bits that are fixed, and a mask of those that are free.
+pub const LINES: [(u32, u32); 5] = [
+    (0xA080_0000, 0x013F_FFF3),
+    (0xA0C0_0000, 0x013F_FFF7),
+    (0x8000_8000, 0x013E_03D3),
+    (0xA0C0_0008, 0x013E_03D7),
+    (0xC008_0000, 0x0000_00FF),
+];
+
+/// One seed for each case. To repeat a case, set BIRDAGHOL_SEED to the seed that its failure shows; it then comes first.
+pub fn seeds(count: u64) -> Range<u64> {
+    let given = env::var("BIRDAGHOL_SEED").ok();
+    let first = given.map_or(0, |seed| seed.parse().expect("a seed is a number"));
+    first..first + count
+}
+
+/// A word of some line of the table, its fields random.
+pub fn listed(random: &mut Random) -> u32 {
+    let (fixed, free) = random.pick(&LINES);
+    fixed | random.u32() & free
+}
+
+/// A listed word with one to three bits flipped, which may be listed still.
+pub fn damaged(random: &mut Random) -> u32 {
+    let flips = 1 + random.below(3);
+    (0..flips).fold(listed(random), |word, _| word ^ 1 << random.below(32))
+}
+
+/// A word that is listed in `good` cases of 8, otherwise damaged or random.
+pub fn word(random: &mut Random, good: u64) -> u32 {
+    if random.below(8) < good {
+        listed(random)
+    } else if random.chance(2) {
+        damaged(random)
+    } else {
+        random.u32()
+    }
+}
+
+/// Flags, in and out of range.
+pub fn flags(random: &mut Random) -> u32 {
+    if random.chance(16) { random.u32() } else { random.below(10) as u32 }
+}
