@@ -14,7 +14,7 @@ use Rattle.isa.specs.declared.Instruction.{Instruction}
 use Rattle.isa.specs.declared.Decoded.the-variants.{Accepted, Refused as NotDecoded}
 use Rattle.isa.proofs.Refusals.{failure-++}
 use Rattle.isa.proofs.Answers.{decode-refused, decode-passed}
-use Rattle.replay.specs.Execution.{benchTests, modeTests, wordTests, outcome}
+use Rattle.replay.specs.Execution.{benchTests, isOuter, modeTests, wordTests, outcome}
 use Rattle.replay.specs.Claims.{Passes}
 use Rattle.replay.specs.declared.Bench.{Bench}
 use Rattle.replay.specs.declared.Outcome.the-variants.{Done, Refused}
@@ -66,11 +66,11 @@ module _ (b : Bench) (w : ℕ) (legal-flags : b .flags ≤ allFlags) where
 
   pub word-refused : (r : Refusal) → decodeOf (b .flags) w ≡ NotDecoded r → firstFailure (wordTests b w) ≡ some r
   word-refused r p =
-      failure-++ (listingTests (b .flags) w) (modeTests b (describe w))
-      ∙ ap (λ o. orElse o (firstFailure (modeTests b (describe w)))) (listing-refused r p)
+      failure-++ (listingTests (b .flags) w) (modeTests b (isOuter (describe w)))
+      ∙ ap (λ o. orElse o (firstFailure (modeTests b (isOuter (describe w))))) (listing-refused r p)
 
-  pub word-accepted : (i : Instruction) → decodeOf (b .flags) w ≡ Accepted i → firstFailure (wordTests b w) ≡ firstFailure (modeTests b (some i))
+  pub word-accepted : (i : Instruction) → decodeOf (b .flags) w ≡ Accepted i → firstFailure (wordTests b w) ≡ firstFailure (modeTests b (isOuter (some i)))
   word-accepted i p =
-      failure-++ (listingTests (b .flags) w) (modeTests b (describe w))
-      ∙ ap (λ o. orElse o (firstFailure (modeTests b (describe w)))) (listing-accepted i p)
-      ∙ ap (λ d. firstFailure (modeTests b d)) (decode-passed (b .flags) w i p .1)
+      failure-++ (listingTests (b .flags) w) (modeTests b (isOuter (describe w)))
+      ∙ ap (λ o. orElse o (firstFailure (modeTests b (isOuter (describe w))))) (listing-accepted i p)
+      ∙ ap (λ d. firstFailure (modeTests b (isOuter d))) (decode-passed (b .flags) w i p .1)

@@ -37,19 +37,16 @@ isOuter (some (Predicated op tile pn pm zn zm)) = true
 isOuter (some (Quarter op tile first second)) = true
 isOuter (some (Zero m)) = false
 
--- tests 9 and 10, of an outer product and of any instruction
-abbrev pub outerTests : Bench → List Test
-outerTests b = record { fails = not (b .sm); gives = StreamingOff } ∷ record { fails = not (b .za); gives = ZaOff } ∷ []
-
-abbrev pub modeTests : Bench → Option Instruction → List Test
-modeTests b d =
-    record { fails = isOuter d && not (b .sm); gives = StreamingOff }
+-- tests 9 and 10, of an outer product or of another instruction
+abbrev pub modeTests : Bench → Bool → List Test
+modeTests b outer =
+    record { fails = outer && not (b .sm); gives = StreamingOff }
     ∷ record { fails = not (b .za); gives = ZaOff }
     ∷ []
 
 -- tests 7 to 10, of a word
 abbrev pub wordTests : Bench → ℕ → List Test
-wordTests b w = listingTests (b .flags) w ++ modeTests b (describe w)
+wordTests b w = listingTests (b .flags) w ++ modeTests b (isOuter (describe w))
 
 -- one word: tests 1 to 5, then 7 to 10
 unfoldable pub refusalOf : Bench → List ℕ → List ℕ → List ℕ → ℕ → Option Refusal

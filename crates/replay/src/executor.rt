@@ -1,6 +1,6 @@
 // One word: the tests in the paper's order, then what its instruction does to ZA.
 ghost use mathlib.Core.Path.{_≡_};
-ghost use mathlib.Core.Bool.{true};
+ghost use mathlib.Core.Bool.{true, false};
 ghost use mathlib.Core.Option.{none, some};
 ghost use lib.ListN.{length};
 ghost use Rattle.isa.specs.Refusals.{firstFailure};
@@ -10,7 +10,7 @@ ghost use Rattle.storage.specs.Sizes.{legal, zaSize};
 ghost use Rattle.storage.specs.Tile.{clear};
 ghost use Rattle.outer.specs.Products.{Ready};
 ghost use Rattle.replay.specs.Operands.{elementBytes};
-ghost use Rattle.replay.specs.Execution.{benchTests, outerTests, modeTests, wordTests, refusalOf, outerEffect, effect, unless, zaAfter, outcome};
+ghost use Rattle.replay.specs.Execution.{benchTests, isOuter, modeTests, wordTests, refusalOf, outerEffect, effect, unless, zaAfter, outcome};
 use crate::Bench;
 use crate::Outcome;
 use crate::operands::predicated_outer;
@@ -76,8 +76,8 @@ pub(crate) fn execute_word(bench: Bench, z: &[u8], p: &[u8], za: &mut [u8], word
 fn execute_instruction(bench: Bench, i: Instruction, z: &[u8], p: &[u8], za: &mut [u8]) -> Outcome
     requires { ⌜ firstFailure (benchTests bench (length (now z)) (length (now p)) (length (now za))) ≡ none ⌝ }
     requires { ⌜ inRange i ≡ true ⌝ }
-    ensures { λ r. ⌜ r ≡ outcome (firstFailure (modeTests bench (some i))) ⌝ }
-    ensures { λ _. ⌜ now (za .exit) ≡ unless (firstFailure (modeTests bench (some i))) (now (za .entry)) (effect (bench .vb) (now (z .entry)) (now (p .entry)) (some i) (now (za .entry))) ⌝ }
+    ensures { λ r. ⌜ r ≡ outcome (firstFailure (modeTests bench (isOuter (some i)))) ⌝ }
+    ensures { λ _. ⌜ now (za .exit) ≡ unless (firstFailure (modeTests bench (isOuter (some i)))) (now (za .entry)) (effect (bench .vb) (now (z .entry)) (now (p .entry)) (some i) (now (za .entry))) ⌝ }
 {
     let vb = bench.vb;
     match i {
@@ -116,8 +116,8 @@ fn outer_product(
 ) -> Outcome
     requires { ⌜ Ready (elementBytes wide) o (now z) (now p) ⌝ }
     requires { ⌜ length (now za) ≡ zaSize (o .vb) ⌝ }
-    ensures { λ r. ⌜ r ≡ outcome (firstFailure (outerTests bench)) ⌝ }
-    ensures { λ _. ⌜ now (za .exit) ≡ unless (firstFailure (outerTests bench)) (now (za .entry)) (outerEffect wide o (now (z .entry)) (now (p .entry)) (now (za .entry))) ⌝ }
+    ensures { λ r. ⌜ r ≡ outcome (firstFailure (modeTests bench true)) ⌝ }
+    ensures { λ _. ⌜ now (za .exit) ≡ unless (firstFailure (modeTests bench true)) (now (za .entry)) (outerEffect wide o (now (z .entry)) (now (p .entry)) (now (za .entry))) ⌝ }
 {
     let sm = bench.sm;
     if !sm {
@@ -146,8 +146,8 @@ fn update(wide: bool, o: OuterProduct, z: &[u8], p: &[u8], za: &mut [u8])
 // ZERO needs ZA alone.
 fn zero(bench: Bench, mask: u8, za: &mut [u8]) -> Outcome
     requires { ⌜ (legal (bench .vb) ≡ true) × (length (now za) ≡ zaSize (bench .vb)) ⌝ }
-    ensures { λ r. ⌜ r ≡ outcome (firstFailure (modeTests bench (some (Instruction.Zero mask)))) ⌝ }
-    ensures { λ _. ⌜ now (za .exit) ≡ unless (firstFailure (modeTests bench (some (Instruction.Zero mask)))) (now (za .entry)) (clear (bench .vb) mask (now (za .entry))) ⌝ }
+    ensures { λ r. ⌜ r ≡ outcome (firstFailure (modeTests bench false)) ⌝ }
+    ensures { λ _. ⌜ now (za .exit) ≡ unless (firstFailure (modeTests bench false)) (now (za .entry)) (clear (bench .vb) mask (now (za .entry))) ⌝ }
 {
     let za_on = bench.za;
     if !za_on {
