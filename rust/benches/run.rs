@@ -1,4 +1,4 @@
-//! Times the library beside the independent account, which is an ordinary Rust program, in one process and by turns.
+//! Times the library beside the independent implementation, an ordinary Rust program, in one process and by turns.
 
 #[allow(dead_code, unused_imports)]
 #[path = "../tests/pseudocode/mod.rs"]

@@ -13,36 +13,60 @@ pub use refusal::Refusal;
 #[doc = include_str!("../../README.md")]
 struct Readme;
 
-/// What words are executed with: the sum of the features that are on (1 SME, 2 I16I64, 4 MOP4), the two modes, and
-/// the vector length in bytes.
+/// What words are executed with.
 #[derive(Clone, Copy, Debug, PartialEq, Eq)]
 pub struct Bench {
+    /// The sum of the features that are on: 1 SME, 2 I16I64, 4 MOP4.
     pub flags: u32,
+    /// Streaming mode, which outer products need.
     pub streaming: bool,
+    /// Whether ZA is on, which every word needs.
     pub za_on: bool,
+    /// The vector length in bytes: 16, 32, 64, 128 or 256.
     pub vb: usize,
 }
 
-/// What an outer product does: the bytes of a tile element, the signs of its sources, and whether it subtracts.
+/// What an outer product does.
 #[derive(Clone, Copy, Debug, PartialEq, Eq)]
 pub struct Operation {
+    /// The bytes of a tile element, 4 or 8.
     pub element_bytes: u32,
+    /// Whether the elements of the first source are unsigned.
     pub first_unsigned: bool,
+    /// Whether the elements of the second source are unsigned.
     pub second_unsigned: bool,
+    /// Whether products are taken from the tile, and not added to it.
     pub subtract: bool,
 }
 
-/// A source of a quarter-tile product: one vector, or the pair that starts at it.
+/// A source of a quarter-tile product, which starts at an even vector: 0 to 14 for the first, 16 to 30 for the second.
 #[derive(Clone, Copy, Debug, PartialEq, Eq)]
 pub enum Source {
+    /// One vector for the whole tile.
     One(u32),
+    /// This vector and the next, one for each half.
     Pair(u32),
 }
 
-/// How a run ended: the number of words executed, and why it was refused or stopped.
+/// The description of a word. A tile is 0 to 3 with elements of 4 bytes, 0 to 7 with elements of 8; a predicate is 0 to
+/// 7, a vector 0 to 31. Other numbers can be held, and are for [`encode`] to refuse.
+#[derive(Clone, Copy, Debug, PartialEq, Eq)]
+pub enum Instruction {
+    /// The outer product of `zn` under `pn` and `zm` under `pm`.
+    Predicated { op: Operation, tile: u32, pn: u32, pm: u32, zn: u32, zm: u32 },
+    /// The quarter-tile outer product of two sources.
+    Quarter { op: Operation, tile: u32, first: Source, second: Source },
+    /// The clearing of the 64-bit tiles whose mask bits are set.
+    Zero { mask: u8 },
+}
+
+/// How a run ended.
+#[must_use]
 #[derive(Clone, Copy, Debug, PartialEq, Eq)]
 pub struct Ended {
+    /// How many words were executed.
     pub count: usize,
+    /// Why the run did not begin, or stopped at the next word.
     pub refusal: Option<Refusal>,
 }
 
@@ -58,43 +82,34 @@ pub fn print(flags: u32, word: u32, room: &mut [u8]) -> Result<usize, Refusal> {
     value(answer).map(|length| length as usize)
 }
 
-/// The word of an outer product of vectors `zn` and `zm` under predicates `pn` and `pm`.
-pub fn encode_predicated(op: Operation, tile: u32, pn: u32, pm: u32, zn: u32, zm: u32) -> Result<u32, Refusal> {
-    value(abi::birdaghol_encode_predicated(
-        op.element_bytes,
-        op.first_unsigned,
-        op.second_unsigned,
-        op.subtract,
-        tile,
-        pn,
-        pm,
-        zn,
-        zm,
-    ))
-    .map(|word| word as u32)
-}
-
-/// The word of a quarter-tile outer product.
-pub fn encode_quarter(op: Operation, tile: u32, first: Source, second: Source) -> Result<u32, Refusal> {
-    let (first, first_pair) = first.parts();
-    let (second, second_pair) = second.parts();
-    value(abi::birdaghol_encode_quarter(
-        op.element_bytes,
-        op.first_unsigned,
-        op.second_unsigned,
-        op.subtract,
-        tile,
-        first,
-        first_pair,
-        second,
-        second_pair,
-    ))
-    .map(|word| word as u32)
-}
-
-/// The word that clears the rows of the 64-bit tiles whose mask bits are set; every mask has one.
-pub fn encode_zero(mask: u8) -> Result<u32, Refusal> {
-    value(abi::birdaghol_encode_zero(mask)).map(|word| word as u32)
+/// The one word of a description.
+pub fn encode(instruction: Instruction) -> Result<u32, Refusal> {
+    let answer = match instruction {
+        Instruction::Predicated { op, tile, pn, pm, zn, zm } => abi::birdaghol_encode_predicated(
+            op.element_bytes,
+            op.first_unsigned,
+            op.second_unsigned,
+            op.subtract,
+            tile,
+            pn,
+            pm,
+            zn,
+            zm,
+        ),
+        Instruction::Quarter { op, tile, first, second } => abi::birdaghol_encode_quarter(
+            op.element_bytes,
+            op.first_unsigned,
+            op.second_unsigned,
+            op.subtract,
+            tile,
+            first.register(),
+            first.is_pair(),
+            second.register(),
+            second.is_pair(),
+        ),
+        Instruction::Zero { mask } => abi::birdaghol_encode_zero(mask),
+    };
+    value(answer).map(|word| word as u32)
 }
 
 /// Executes one word. `z` is 32 vectors of `vb` bytes, `p` 16 predicates of `vb` bits, `za` `vb` rows of `vb` bytes.
@@ -120,7 +135,7 @@ pub fn execute(bench: Bench, z: &[u8], p: &[u8], za: &mut [u8], word: u32) -> Re
 /// Executes a list of words in turn on the same buffers, up to the first word refused.
 pub fn run(bench: Bench, z: &[u8], p: &[u8], za: &mut [u8], words: &[u32]) -> Ended {
     // SAFETY: each address stands beside the length of its own slice; `za`, the only one written, is lent alone.
-    let (count, refusal) = parts(unsafe {
+    let (count, refusal) = unpack(unsafe {
         abi::birdaghol_run(
             bench.flags,
             bench.streaming,
@@ -140,23 +155,27 @@ pub fn run(bench: Bench, z: &[u8], p: &[u8], za: &mut [u8], words: &[u32]) -> En
 }
 
 impl Source {
-    /// The first register, and whether a second one follows.
-    fn parts(self) -> (u32, bool) {
+    /// The first register.
+    fn register(self) -> u32 {
         match self {
-            Source::One(register) => (register, false),
-            Source::Pair(register) => (register, true),
+            Source::One(register) | Source::Pair(register) => register,
         }
+    }
+
+    /// Whether a second register follows.
+    fn is_pair(self) -> bool {
+        matches!(self, Source::Pair(_))
     }
 }
 
 /// Takes a value times 256 plus a refusal's number apart.
-fn parts(answer: u64) -> (u64, Option<Refusal>) {
-    (answer / 256, Refusal::of(answer as u32 % 256))
+fn unpack(answer: u64) -> (u64, Option<Refusal>) {
+    (answer / 256, Refusal::of((answer % 256) as u32))
 }
 
 /// The value of an answer that has one beside no refusal.
 fn value(answer: u64) -> Result<u64, Refusal> {
-    let (value, refusal) = parts(answer);
+    let (value, refusal) = unpack(answer);
     refusal.map_or(Ok(value), Err)
 }
 

@@ -1,4 +1,4 @@
-//! Holds the library against the independent account of the instructions, on random input of every sort.
+//! Holds the library against the independent implementation, on random input of every sort.
 
 mod pseudocode;
 mod sample;
@@ -61,7 +61,7 @@ fn encode() {
     tally.assert_covers(&[11], 10_000);
 }
 
-/// The fields of a listed word are those of no other.
+/// The description that the independent implementation reads off a word is encoded to that word again.
 #[test]
 fn encode_undoes_decode() {
     for seed in seeds(500_000) {
@@ -86,7 +86,7 @@ fn execute() {
             |z, p, za| birdaghol::execute(bench(&case), z, p, za, word).map_err(Refusal::number),
         );
         tally.count(word, &expected);
-        tally.accept_at(case.bench.vb, expected.iter().count());
+        tally.accept_at(case.bench.vb, usize::from(expected.is_ok()));
     }
     tally.assert_covers(&[1, 2, 3, 4, 5, 7, 8, 9, 10], 500);
     tally.assert_lengths(5_000);
@@ -168,26 +168,28 @@ fn bench(case: &Case) -> Bench {
     Bench { flags: case.bench.flags, streaming: case.bench.streaming, za_on: case.bench.za_on, vb: case.bench.vb }
 }
 
-/// The library's word for an instruction of the independent account.
+/// The library's word for an instruction of the independent implementation.
 fn encoded(instruction: Instruction) -> Result<u32, Refusal> {
     let op = match instruction {
         Instruction::Outer(op) => op,
-        Instruction::Zero { mask } => return birdaghol::encode_zero(mask),
+        Instruction::Zero { mask } => return birdaghol::encode(birdaghol::Instruction::Zero { mask }),
     };
-    let operation = Operation {
+    let tile = op.tile;
+    let source = |pseudocode::Source { register, pair }| match pair {
+        false => Source::One(register),
+        true => Source::Pair(register),
+    };
+    let sources = op.sources;
+    let op = Operation {
         element_bytes: op.element_bytes,
         first_unsigned: op.first_unsigned,
         second_unsigned: op.second_unsigned,
         subtract: op.subtract,
     };
-    let source = |pseudocode::Source { register, pair }| match pair {
-        false => Source::One(register),
-        true => Source::Pair(register),
-    };
-    match op.sources {
-        Sources::Predicated { pn, pm, zn, zm } => birdaghol::encode_predicated(operation, op.tile, pn, pm, zn, zm),
+    birdaghol::encode(match sources {
+        Sources::Predicated { pn, pm, zn, zm } => birdaghol::Instruction::Predicated { op, tile, pn, pm, zn, zm },
         Sources::Quarter { first, second } => {
-            birdaghol::encode_quarter(operation, op.tile, source(first), source(second))
+            birdaghol::Instruction::Quarter { op, tile, first: source(first), second: source(second) }
         }
-    }
+    })
 }

@@ -8,7 +8,7 @@ use Rattle.isa.specs.Refusals.{number}
 use Rattle.isa.specs.Answers.{encodeOf, encodedNumber, encodedWord}
 use Rattle.isa.specs.declared.Operation.{Operation}
 use Rattle.isa.specs.declared.Instruction.{Instruction}
-use Rattle.isa.specs.declared.Instruction.the-variants.{Predicated, Quarter}
+use Rattle.isa.specs.declared.Instruction.the-variants.{Predicated, Quarter, Zero}
 use Rattle.isa.specs.declared.Encoded.{Encoded}
 use Rattle.isa.specs.declared.Refusal.the-variants.{OutOfRange}
 use Rattle.isa.specs.Table.{source}
@@ -34,13 +34,13 @@ sized bytes i = cond (eqb bytes 4 || eqb bytes 8) (some i) none
 abbrev pub operation : ℕ → Bool → Bool → Bool → Operation
 operation bytes u0 u1 subtract = record { wide = eqb bytes 8; u0 = u0; u1 = u1; subtract = subtract }
 
-abbrev pub predicatedCall : ℕ → Bool → Bool → Bool → ℕ → ℕ → ℕ → ℕ → ℕ → Option Instruction
-predicatedCall bytes u0 u1 subtract tile pn pm zn zm =
-    sized bytes (Predicated (operation bytes u0 u1 subtract) (record { 0 = tile }) (record { 0 = pn }) (record { 0 = pm }) (record { 0 = zn }) (record { 0 = zm }))
+abbrev pub predicatedOf : ℕ → Bool → Bool → Bool → ℕ → ℕ → ℕ → ℕ → ℕ → Instruction
+predicatedOf bytes u0 u1 subtract tile pn pm zn zm =
+    Predicated (operation bytes u0 u1 subtract) (record { 0 = tile }) (record { 0 = pn }) (record { 0 = pm }) (record { 0 = zn }) (record { 0 = zm })
 
-abbrev pub quarterCall : ℕ → Bool → Bool → Bool → ℕ → ℕ → Bool → ℕ → Bool → Option Instruction
-quarterCall bytes u0 u1 subtract tile first firstPair second secondPair =
-    sized bytes (Quarter (operation bytes u0 u1 subtract) (record { 0 = tile }) (source firstPair first) (source secondPair second))
+abbrev pub quarterOf : ℕ → Bool → Bool → Bool → ℕ → ℕ → Bool → ℕ → Bool → Instruction
+quarterOf bytes u0 u1 subtract tile first firstPair second secondPair =
+    Quarter (operation bytes u0 u1 subtract) (record { 0 = tile }) (source firstPair first) (source secondPair second)
 
 abbrev pub packedEncoded : Encoded → ℕ
 packedEncoded a = packed (encodedWord a) (encodedNumber a)
@@ -48,6 +48,15 @@ packedEncoded a = packed (encodedWord a) (encodedNumber a)
 abbrev pub encodeCall : Option Instruction → ℕ
 encodeCall none = packed 0 (number OutOfRange)
 encodeCall (some i) = packedEncoded (encodeOf i)
+
+abbrev pub predicatedCall : ℕ → Bool → Bool → Bool → ℕ → ℕ → ℕ → ℕ → ℕ → ℕ
+predicatedCall bytes u0 u1 subtract tile pn pm zn zm = encodeCall (sized bytes (predicatedOf bytes u0 u1 subtract tile pn pm zn zm))
+
+abbrev pub quarterCall : ℕ → Bool → Bool → Bool → ℕ → ℕ → Bool → ℕ → Bool → ℕ
+quarterCall bytes u0 u1 subtract tile first firstPair second secondPair = encodeCall (sized bytes (quarterOf bytes u0 u1 subtract tile first firstPair second secondPair))
+
+abbrev pub zeroCall : ℕ → ℕ
+zeroCall mask = encodeCall (some (Zero mask))
 
 -- ---- execute and run
 abbrev pub benchOf : ℕ → Bool → Bool → ℕ → Bench

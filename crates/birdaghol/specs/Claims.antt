@@ -1,18 +1,17 @@
 -- What a caller reads off an answer; proofs/Theorems.antt proves it for every call.
 use mathlib.Core.Path.{_≡_}
-use mathlib.Core.Bool.{Bool, true, false}
-use mathlib.Core.Logic.{_↔_}
+use mathlib.Core.Bool.{Bool}
+use mathlib.Core.Logic.{_↔_, _⊎_}
 use mathlib.Core.List.{List}
-use mathlib.Core.Option.{Option, none, some}
-use Prim.Native.Nat.{ℕ, _/_, _%_}
+use Prim.Native.Nat.{ℕ, _/_, _%_, _≤_, _<_}
 use lib.ListN.{length}
-use Rattle.isa.specs.Table.{inRange}
 use Rattle.isa.specs.Claims.{OnlyWord}
 use Rattle.isa.specs.declared.Instruction.{Instruction}
+use Rattle.isa.specs.declared.Instruction.the-variants.{Zero}
 use Rattle.text.specs.Claims.{numberIn, lengthIn}
 use Rattle.replay.specs.Claims.{runNumber, runCount}
 use Rattle.replay.specs.declared.Bench.{Bench}
-use Rattle.birdaghol.specs.Calls.{printCall, encodeCall, runCall}
+use Rattle.birdaghol.specs.Calls.{printCall, predicatedOf, quarterOf, predicatedCall, quarterCall, zeroCall, runCall}
 
 -- the value is the answer divided by 256, the refusal what is left over
 pub record Unpacks (answer value refusal : ℕ) : Type 0 where
@@ -25,12 +24,40 @@ PrintUnpacks flags w room = Unpacks (printCall flags w (length room)) (lengthIn 
 abbrev pub RunUnpacks : Bench → List ℕ → List ℕ → List ℕ → List ℕ → Type 0
 RunUnpacks b z p za ws = Unpacks (runCall b z p za ws) (runCount b z p za ws) (runNumber b z p za ws)
 
--- whether the arguments of an encode describe an instruction in range
-abbrev pub describedInRange : Option Instruction → Bool
-describedInRange none = false
-describedInRange (some i) = inRange i
+-- ---- encode: the arguments that are in range; a tile of either width has as many siblings as its elements have bytes
+abbrev pub ElementSize : ℕ → Type 0
+ElementSize bytes = (bytes ≡ 4) ⊎ (bytes ≡ 8)
 
--- the one word and no refusal, or 11 alone
-pub record EncodeAnswers (d : Option Instruction) : Type 0 where
-  pub word : describedInRange d ≡ true → (i : Instruction) × (w : ℕ) × (d ≡ some i) × Unpacks (encodeCall d) w 0 × OnlyWord i w
-  pub gives-11 : (encodeCall d ≡ 11) ↔ (describedInRange d ≡ false)
+pub record PredicatedFits (bytes tile pn pm zn zm : ℕ) : Type 0 where
+  pub size : ElementSize bytes
+  pub tile-below : tile < bytes
+  pub pn-below : pn < 8
+  pub pm-below : pm < 8
+  pub zn-below : zn < 32
+  pub zm-below : zm < 32
+
+pub record QuarterFits (bytes tile first second : ℕ) : Type 0 where
+  pub size : ElementSize bytes
+  pub tile-below : tile < bytes
+  pub first-even : first % 2 ≡ 0
+  pub first-most : first ≤ 14
+  pub second-even : second % 2 ≡ 0
+  pub second-least : 16 ≤ second
+  pub second-most : second ≤ 30
+
+-- arguments that fit get the one word of their instruction and no refusal, others 11 alone
+pub record EncodeAnswers (answer : ℕ) (i : Instruction) (Fits : Type 0) : Type 0 where
+  pub word : Fits → (w : ℕ) × Unpacks answer w 0 × OnlyWord i w
+  pub gives-11 : (answer ≡ 11) ↔ (Fits → ⊥)
+
+abbrev pub PredicatedAnswers : ℕ → Bool → Bool → Bool → ℕ → ℕ → ℕ → ℕ → ℕ → Type 0
+PredicatedAnswers bytes u0 u1 subtract tile pn pm zn zm =
+    EncodeAnswers (predicatedCall bytes u0 u1 subtract tile pn pm zn zm) (predicatedOf bytes u0 u1 subtract tile pn pm zn zm) (PredicatedFits bytes tile pn pm zn zm)
+
+abbrev pub QuarterAnswers : ℕ → Bool → Bool → Bool → ℕ → ℕ → Bool → ℕ → Bool → Type 0
+QuarterAnswers bytes u0 u1 subtract tile first firstPair second secondPair =
+    EncodeAnswers (quarterCall bytes u0 u1 subtract tile first firstPair second secondPair) (quarterOf bytes u0 u1 subtract tile first firstPair second secondPair) (QuarterFits bytes tile first second)
+
+-- every byte is a good mask
+abbrev pub ZeroAnswers : ℕ → Type 0
+ZeroAnswers mask = EncodeAnswers (zeroCall mask) (Zero mask) (mask < 256)

@@ -7,7 +7,7 @@ ghost use Rattle.text.specs.Printing.{roomAfter};
 ghost use Rattle.replay.specs.Execution.{zaAfter, outcomeNumber};
 ghost use Rattle.replay.specs.Lists.{runZa};
 ghost use Rattle.replay.specs.Claims.{executeNumber};
-ghost use Rattle.birdaghol.specs.Calls.{printCall, sized, operation, predicatedCall, quarterCall, encodeCall, benchOf, runCall};
+ghost use Rattle.birdaghol.specs.Calls.{printCall, sized, operation, predicatedCall, quarterCall, zeroCall, encodeCall, benchOf, runCall};
 use isa::Decoded;
 use isa::Encoded;
 use isa::Instruction;
@@ -20,8 +20,8 @@ use replay::Bench;
 use replay::Outcome;
 use text::Printed;
 
-// What one value is worth beside a refusal.
-const VALUE: u64 = 256;
+// A refusal takes the low byte of an answer, and the value stands above it.
+const ABOVE_REFUSAL: u64 = 256;
 
 // 0 where the word is an instruction with these features, else the refusal.
 #[no_mangle]
@@ -41,7 +41,7 @@ pub extern "C" fn birdaghol_print(flags: u32, word: u32, room: &mut [u8]) -> u64
     ensures { λ _. ⌜ now (room .exit) ≡ roomAfter flags word (now (room .entry)) ⌝ }
 {
     match text::print(flags, word, room) {
-        Printed::Length(n) => n as u64 * VALUE,
+        Printed::Length(n) => n as u64 * ABOVE_REFUSAL,
         Printed::Refused(r) => isa::number(r) as u64,
     }
 }
@@ -59,7 +59,7 @@ pub extern "C" fn birdaghol_encode_predicated(
     zn: u32,
     zm: u32,
 ) -> u64
-    ensures { λ r. ⌜ r ≡ encodeCall (predicatedCall «element_bytes» «first_unsigned» «second_unsigned» subtract tile pn pm zn zm) ⌝ }
+    ensures { λ r. ⌜ r ≡ predicatedCall «element_bytes» «first_unsigned» «second_unsigned» subtract tile pn pm zn zm ⌝ }
 {
     let op = operation_of(element_bytes, first_unsigned, second_unsigned, subtract);
     let i = Instruction::Predicated {
@@ -86,7 +86,7 @@ pub extern "C" fn birdaghol_encode_quarter(
     second: u32,
     second_pair: bool,
 ) -> u64
-    ensures { λ r. ⌜ r ≡ encodeCall (quarterCall «element_bytes» «first_unsigned» «second_unsigned» subtract tile first «first_pair» second «second_pair») ⌝ }
+    ensures { λ r. ⌜ r ≡ quarterCall «element_bytes» «first_unsigned» «second_unsigned» subtract tile first «first_pair» second «second_pair» ⌝ }
 {
     let op = operation_of(element_bytes, first_unsigned, second_unsigned, subtract);
     let i = Instruction::Quarter {
@@ -101,7 +101,7 @@ pub extern "C" fn birdaghol_encode_quarter(
 // The word of a ZERO. The value is the word.
 #[no_mangle]
 pub extern "C" fn birdaghol_encode_zero(mask: u8) -> u64
-    ensures { λ r. ⌜ r ≡ encodeCall (some (Instruction.Zero mask)) ⌝ }
+    ensures { λ r. ⌜ r ≡ zeroCall mask ⌝ }
 {
     encode(Instruction::Zero(mask))
 }
@@ -141,7 +141,7 @@ pub extern "C" fn birdaghol_run(
 {
     let ended = replay::run(bench_of(flags, streaming, za_on, vb), z, p, za, words);
     let outcome = ended.outcome;
-    ended.count as u64 * VALUE + refusal_of(outcome) as u64
+    ended.count as u64 * ABOVE_REFUSAL + refusal_of(outcome) as u64
 }
 
 // What the arguments say, as the kinds that they stand for.
@@ -193,11 +193,12 @@ fn encode_sized(element_bytes: u32, i: Instruction) -> u64
     isa::number(Refusal::OutOfRange) as u64
 }
 
+// The word of a description, or the refusal.
 fn encode(i: Instruction) -> u64
     ensures { λ r. ⌜ r ≡ encodeCall (some i) ⌝ }
 {
     match isa::encode(i) {
-        Encoded::Word(w) => w as u64 * VALUE,
+        Encoded::Word(w) => w as u64 * ABOVE_REFUSAL,
         Encoded::Refused(r) => isa::number(r) as u64,
     }
 }

@@ -66,7 +66,7 @@ source-pair : (b : Bool) (n : ℕ) → isPair (source b n) ≡ b
 source-pair true n = refl
 source-pair false n = refl
 
-source-register : (b : Bool) (n : ℕ) → register (source b n) ≡ n
+pub source-register : (b : Bool) (n : ℕ) → register (source b n) ≡ n
 source-register true n = refl
 source-register false n = refl
 

@@ -1,5 +1,5 @@
-//! An independent account of the instructions, written from Arm's pages and the rules of the bench, to hold the
-//! library against. Refusals are plain numbers here.
+//! An independent implementation, written from Arm's pseudocode and the rules of the bench, to hold the library
+//! against. Refusals are plain numbers here.
 
 mod execute;
 mod text;

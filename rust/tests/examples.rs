@@ -1,16 +1,18 @@
 //! The bench examples of the rules, through the safe functions.
 
-use birdaghol::{Bench, Ended, Refusal, decode, execute, print, run};
+use birdaghol::{Bench, Ended, Instruction, Operation, Refusal, Source, decode, encode, execute, print, run};
 
 /// Every feature and both modes on, vectors of 16 bytes.
 const BENCH: Bench = Bench { flags: 7, streaming: true, za_on: true, vb: 16 };
 
-/// ZERO of all, and outer products of z0 and z1 into tile 0 under p0 and p1.
+/// The clearing of all of ZA.
+const ZERO: u32 = 0xC008_00FF;
+
+// Outer products of z0 and z1 into tile 0 under p0 and p1.
 const SUMOPA: u32 = 0xA0A1_2000;
 const SUMOPS: u32 = 0xA0A1_2010;
 const UMOPA: u32 = 0xA1A1_2000;
 const UMOPA_WIDE: u32 = 0xA1E1_2000;
-const ZERO: u32 = 0xC008_00FF;
 
 /// The text of a word.
 fn text(flags: u32, word: u32) -> Result<String, Refusal> {
@@ -55,6 +57,45 @@ fn texts_and_refused_words() {
     }
     assert_eq!(decode(4, 0xA1C0_001F), Err(Refusal::FeatureOff));
     assert_eq!(text(6, 0xA1C0_001F).as_deref(), Ok("usmop4s za7.d, z0.h, z16.h"));
+}
+
+#[test]
+fn words_of_descriptions() {
+    let op = Operation { element_bytes: 4, first_unsigned: false, second_unsigned: true, subtract: true };
+    let sumops = Instruction::Predicated { op, tile: 3, pn: 2, pm: 5, zn: 3, zm: 17 };
+    assert_eq!(encode(sumops), Ok(0xA0B1_A873));
+
+    let op = Operation { first_unsigned: true, second_unsigned: false, ..op };
+    let usmop4s = Instruction::Quarter { op, tile: 2, first: Source::Pair(10), second: Source::Pair(30) };
+    assert_eq!(encode(usmop4s), Ok(0x811E_8352));
+
+    assert_eq!(encode(Instruction::Zero { mask: 0x11 }), Ok(0xC008_0011));
+}
+
+#[test]
+fn every_refusal_by_its_name() {
+    let stopped = |bench, z, p, za, words| {
+        let ended = run(bench, &vec![0; z], &vec![0; p], &mut vec![0; za], &vec![UMOPA; words]);
+        ended.refusal.expect("a refusal")
+    };
+    let op = Operation { element_bytes: 16, first_unsigned: false, second_unsigned: false, subtract: false };
+    let refusals = [
+        (stopped(Bench { flags: 8, ..BENCH }, 512, 32, 256, 1), Refusal::Flags),
+        (stopped(Bench { vb: 15, ..BENCH }, 512, 32, 256, 1), Refusal::VectorLength),
+        (stopped(BENCH, 511, 32, 256, 1), Refusal::ZLength),
+        (stopped(BENCH, 512, 31, 256, 1), Refusal::PLength),
+        (stopped(BENCH, 512, 32, 255, 1), Refusal::ZaLength),
+        (stopped(BENCH, 512, 32, 256, 4097), Refusal::ListLength),
+        (decode(7, 0x8100_0010).unwrap_err(), Refusal::Unlisted),
+        (stopped(Bench { flags: 2, ..BENCH }, 512, 32, 256, 1), Refusal::FeatureOff),
+        (stopped(Bench { streaming: false, ..BENCH }, 512, 32, 256, 1), Refusal::StreamingOff),
+        (stopped(Bench { za_on: false, ..BENCH }, 512, 32, 256, 1), Refusal::ZaOff),
+        (encode(Instruction::Predicated { op, tile: 0, pn: 0, pm: 0, zn: 0, zm: 0 }).unwrap_err(), Refusal::OutOfRange),
+        (print(7, ZERO, &mut [0; 62]).unwrap_err(), Refusal::Room),
+    ];
+    for (number, (refusal, name)) in (1..).zip(refusals) {
+        assert_eq!((refusal, refusal.number()), (name, number));
+    }
 }
 
 #[test]
