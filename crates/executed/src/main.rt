@@ -15,7 +15,8 @@ const INPUT_ROOM: usize = 1048576;
 
 const LONGEST_VB: u32 = 256;
 
-const WORDS_ROOM: usize = 64;
+// As many words as a run takes.
+const WORDS_ROOM: usize = 4096;
 
 // How many lines have a list, at how many of these the run agrees, and how many others are no comments.
 pub struct Tally {
@@ -283,6 +284,7 @@ fn digit_of(byte: u8) -> u32
     match byte {
         b'0'..=b'9' => (byte - b'0') as u32,
         b'a'..=b'f' => (byte - b'a') as u32 + 10,
+        b'A'..=b'F' => (byte - b'A') as u32 + 10,
         _ => 16,
     }
 }
