@@ -4,38 +4,22 @@ use mathlib.Core.List.{List}
 use Prim.Native.Nat.{ℕ, _*_, _≤_}
 use native.Mathlib.Omega.{arith}
 use lib.ListN.{length}
-use Rattle.isa.specs.Refusals.{number}
-use Rattle.isa.specs.declared.Refusal.{Refusal}
-use Rattle.isa.specs.declared.Encoded.{Encoded}
-use Rattle.isa.specs.declared.Encoded.the-variants.{Word, Refused as NotEncoded}
 use Rattle.text.specs.Printing.{printOf, printedNumber, printedLength}
-use Rattle.text.specs.declared.Printed.{Printed}
-use Rattle.text.specs.declared.Printed.the-variants.{Length, Refused as NotPrinted}
+use Rattle.text.specs.declared.Printed.the-variants.{Length}
 use Rattle.text.proofs.Theorems.{prints}
 use Rattle.replay.specs.Execution.{outcomeNumber}
 use Rattle.replay.specs.Lists.{mostWords, runOf}
 use Rattle.replay.specs.declared.Bench.{Bench}
 use Rattle.replay.specs.declared.Ended.{Ended}
 use Rattle.replay.proofs.Theorems.{runs}
-use Rattle.birdaghol.specs.Calls.{packed, packedPrinted, packedEncoded, runCall}
+use Rattle.birdaghol.specs.Calls.{packed, runCall}
 
-value-alone : (v : ℕ) → v * 256 ≡ packed v 0
+-- an answer with no refusal, and one with no value
+pub value-alone : (v : ℕ) → v * 256 ≡ packed v 0
 value-alone v = omega arith
 
-refusal-alone : (n : ℕ) → n ≡ packed 0 n
+pub refusal-alone : (n : ℕ) → n ≡ packed 0 n
 refusal-alone n = omega arith
-
-pub printed-value : (a : Printed) (n : ℕ) → a ≡ Length n → n * 256 ≡ packedPrinted a
-printed-value a n e = value-alone n ∙ sym (ap packedPrinted e)
-
-pub printed-refusal : (a : Printed) (r : Refusal) → a ≡ NotPrinted r → number r ≡ packedPrinted a
-printed-refusal a r e = refusal-alone (number r) ∙ sym (ap packedPrinted e)
-
-pub encoded-value : (a : Encoded) (w : ℕ) → a ≡ Word w → w * 256 ≡ packedEncoded a
-encoded-value a w e = value-alone w ∙ sym (ap packedEncoded e)
-
-pub encoded-refusal : (a : Encoded) (r : Refusal) → a ≡ NotEncoded r → number r ≡ packedEncoded a
-encoded-refusal a r e = refusal-alone (number r) ∙ sym (ap packedEncoded e)
 
 pub printed-short : (flags w : ℕ) (room : List ℕ) (n : ℕ) → printOf flags w (length room) ≡ Length n → n ≤ 63
 printed-short flags w room n e =

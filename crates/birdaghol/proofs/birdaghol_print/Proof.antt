@@ -1,7 +1,8 @@
 -- `birdaghol::birdaghol_print` meets its contract: print's answer, packed. Assumes nothing.
-use mathlib.Core.Path.{_∙_, sym}
+use mathlib.Core.Path.{_∙_, sym, ap}
 use native.Mathlib.Omega.{arith}
-use Rattle.birdaghol.proofs.Packing.{printed-value, printed-refusal, printed-short}
+use Rattle.birdaghol.specs.Calls.{packedPrinted}
+use Rattle.birdaghol.proofs.Packing.{value-alone, refusal-alone, printed-short}
 use borrow.Author.Needs.{needs}
 use Rattle.birdaghol.proofs.birdaghol_print.Statement.{statement}
 use Rattle.birdaghol.proofs.birdaghol_print.Tie as tie
@@ -12,12 +13,12 @@ mul-result c = omega (arith, printed-short _ _ (c .before .before .before .befor
 returns : tie.Need-returns
 returns c =
     let p = c .before .before .before .before .before .print .ensures in
-    (printed-value _ _ (sym (p .0) ∙ c .before .n .given .1), p .1)
+    (value-alone _ ∙ sym (ap packedPrinted (sym (p .0) ∙ c .before .n .given .1)), p .1)
 
 returns-2 : tie.Need-returns-2
 returns-2 c =
     let p = c .before .before .before .before .before .before .print .ensures in
-    (c .number .ensures ∙ printed-refusal _ _ (sym (p .0) ∙ c .before .before .r .given .1), p .1)
+    (c .number .ensures ∙ refusal-alone _ ∙ sym (ap packedPrinted (sym (p .0) ∙ c .before .before .r .given .1)), p .1)
 
 pub birdaghol-print-spec : {M : Type 1} → statement M
 birdaghol-print-spec =

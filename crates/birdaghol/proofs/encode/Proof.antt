@@ -1,15 +1,16 @@
 -- `birdaghol::encode` meets its contract: encode's answer, packed. Assumes nothing.
-use mathlib.Core.Path.{_∙_, sym}
-use Rattle.birdaghol.proofs.Packing.{encoded-value, encoded-refusal}
+use mathlib.Core.Path.{_∙_, sym, ap}
+use Rattle.birdaghol.specs.Calls.{packedEncoded}
+use Rattle.birdaghol.proofs.Packing.{value-alone, refusal-alone}
 use borrow.Author.Needs.{needs}
 use Rattle.birdaghol.proofs.encode.Statement.{statement}
 use Rattle.birdaghol.proofs.encode.Tie as tie
 
 returns : tie.Need-returns
-returns c = encoded-value _ _ (sym (c .before .before .before .encode .ensures) ∙ c .before .w .given .1)
+returns c = value-alone _ ∙ sym (ap packedEncoded (sym (c .before .before .before .encode .ensures) ∙ c .before .w .given .1))
 
 returns-2 : tie.Need-returns-2
-returns-2 c = c .number .ensures ∙ encoded-refusal _ _ (sym (c .before .before .before .before .encode .ensures) ∙ c .before .before .r .given .1)
+returns-2 c = c .number .ensures ∙ refusal-alone _ ∙ sym (ap packedEncoded (sym (c .before .before .before .before .encode .ensures) ∙ c .before .before .r .given .1))
 
 pub encode-spec : {M : Type 1} → statement M
 encode-spec =

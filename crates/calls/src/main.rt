@@ -1,0 +1,153 @@
+// Calls each exported function and writes its answers, value first and refusal second, and what it left in a buffer:
+// which argument is which, and that the boundary's numbers are as document 01 has them.
+use birdaghol::birdaghol_decode;
+use birdaghol::birdaghol_encode_predicated;
+use birdaghol::birdaghol_encode_quarter;
+use birdaghol::birdaghol_encode_zero;
+use birdaghol::birdaghol_execute;
+use birdaghol::birdaghol_print;
+use birdaghol::birdaghol_run;
+use libc::STDOUT_FILENO;
+
+const SUMOPA: u32 = 0xA0A0_0000;
+
+const ZERO_ALL: u32 = 0xC008_00FF;
+
+const UNLISTED: u32 = 0x8100_0010;
+
+fn main() {
+    decodes();
+    prints();
+    encodes();
+    let z = [0xFFu8; 512];
+    let p = [0xFFu8; 32];
+    executes(&z, &p);
+    runs(&z, &p);
+}
+
+fn decodes() {
+    number(b"decode", birdaghol_decode(6, 0xA1C0_001F));
+    number(b"decode, a feature off", birdaghol_decode(4, 0xA1C0_001F));
+    number(b"decode, unlisted", birdaghol_decode(7, UNLISTED));
+}
+
+// The text has 47 bytes: the room's last byte stays a line feed.
+fn prints() {
+    let mut room = [b'\n'; 48];
+    answer(b"print", birdaghol_print(7, 0x811E_8352, &mut room));
+    io::write_all(STDOUT_FILENO, &room);
+    answer(b"print, no room", birdaghol_print(7, ZERO_ALL, &mut room));
+    io::write_all(STDOUT_FILENO, &room);
+}
+
+fn encodes() {
+    answer(
+        b"sumops",
+        birdaghol_encode_predicated(4, false, true, true, 3, 2, 5, 3, 17),
+    );
+    answer(
+        b"usmopa, wide",
+        birdaghol_encode_predicated(8, true, false, false, 0, 7, 3, 6, 12),
+    );
+    answer(
+        b"elements of 16 bytes",
+        birdaghol_encode_predicated(16, false, true, true, 3, 2, 5, 3, 17),
+    );
+    answer(
+        b"usmop4s, pairs",
+        birdaghol_encode_quarter(4, true, false, true, 2, 10, true, 30, true),
+    );
+    answer(
+        b"sumop4s, wide, one and a pair",
+        birdaghol_encode_quarter(8, false, true, true, 4, 12, false, 18, true),
+    );
+    answer(
+        b"an odd source",
+        birdaghol_encode_quarter(4, true, false, true, 2, 11, true, 30, true),
+    );
+    answer(b"zero", birdaghol_encode_zero(0x11));
+}
+
+fn executes(z: &[u8], p: &[u8]) {
+    let mut za = [0u8; 256];
+    number(
+        b"execute",
+        birdaghol_execute(7, true, true, 16, z, p, &mut za, SUMOPA),
+    );
+    bytes(&za);
+    number(
+        b"flags",
+        birdaghol_execute(8, true, true, 16, z, p, &mut za, ZERO_ALL),
+    );
+    number(
+        b"a length of 15",
+        birdaghol_execute(7, true, true, 15, z, p, &mut za, ZERO_ALL),
+    );
+    number(
+        b"streaming off",
+        birdaghol_execute(7, false, true, 16, z, p, &mut za, SUMOPA),
+    );
+    number(
+        b"ZA off",
+        birdaghol_execute(7, true, false, 16, z, p, &mut za, SUMOPA),
+    );
+    bytes(&za);
+}
+
+fn runs(z: &[u8], p: &[u8]) {
+    let mut za = [1u8; 256];
+    let words = [ZERO_ALL, SUMOPA, UNLISTED, SUMOPA];
+    answer(
+        b"run",
+        birdaghol_run(7, true, true, 16, z, p, &mut za, &words),
+    );
+    bytes(&za);
+    answer(
+        b"Z and P exchanged",
+        birdaghol_run(7, true, true, 16, p, z, &mut za, &words),
+    );
+    answer(
+        b"streaming off",
+        birdaghol_run(7, false, true, 16, z, p, &mut za, &words),
+    );
+    bytes(&za);
+}
+
+// An answer taken apart.
+fn answer(name: &[u8], n: u64) {
+    io::write_all(STDOUT_FILENO, name);
+    io::write_all(STDOUT_FILENO, b": ");
+    io::print_decimal(STDOUT_FILENO, n / 256);
+    io::write_all(STDOUT_FILENO, b" ");
+    io::print_decimal(STDOUT_FILENO, n % 256);
+    io::write_all(STDOUT_FILENO, b"\n");
+}
+
+fn number(name: &[u8], n: u32) {
+    io::write_all(STDOUT_FILENO, name);
+    io::write_all(STDOUT_FILENO, b": ");
+    io::print_decimal(STDOUT_FILENO, n as u64);
+    io::write_all(STDOUT_FILENO, b"\n");
+}
+
+// The first elements of ZA's first two rows: of tiles 0 and 1.
+fn bytes(za: &[u8]) {
+    io::write_all(STDOUT_FILENO, b"ZA:");
+    if 256 <= za.len() {
+        four(za[0], za[1], za[2], za[3]);
+        four(za[16], za[17], za[18], za[19]);
+    }
+    io::write_all(STDOUT_FILENO, b"\n");
+}
+
+fn four(a: u8, b: u8, c: u8, d: u8) {
+    byte(a);
+    byte(b);
+    byte(c);
+    byte(d);
+}
+
+fn byte(b: u8) {
+    io::write_all(STDOUT_FILENO, b" ");
+    io::print_decimal(STDOUT_FILENO, b as u64);
+}
