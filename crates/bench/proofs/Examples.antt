@@ -9,12 +9,12 @@ use Rattle.storage.specs.Modulo.{modZ, plus}
 use Rattle.storage.specs.Change.{tabulate, change}
 use Rattle.storage.specs.Tile.{start, element, addAt, addTo, clearAt, clear}
 use Rattle.outer.specs.Products.{product, dot}
-use Rattle.replay.specs.Execution.{refusalOf, zaAfter}
+use Rattle.replay.specs.Execution.{refusalOf, after}
 use Rattle.replay.specs.Lists.{played}
 use Rattle.bench.specs.Examples.{examples, answered}
 
 pub examples-hold : answered examples ≡ examples
-unfolding printOf roomAfter textOf describe missing spelling decodeOf start element byteOf word bitAt modZ plus tabulate change addAt addTo clearAt clear product dot refusalOf zaAfter played
+unfolding printOf roomAfter textOf describe missing spelling decodeOf start element byteOf word bitAt modZ plus tabulate change addAt addTo clearAt clear product dot refusalOf after played
 examples-hold = refl
 
 pub twelve : length examples ≡ 12

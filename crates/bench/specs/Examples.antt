@@ -4,14 +4,13 @@ use mathlib.Core.Bool.{true}
 use mathlib.Core.List.{List, [], _∷_, _++_, map}
 use mathlib.Core.Option.{Option, none, some}
 use Prim.Native.Nat.{ℕ}
-use lib.ListN.{take, replicate}
+use lib.ListN.{length, take, replicate}
 use Rattle.isa.specs.Answers.{describe, decodeNumber}
-use Rattle.isa.specs.declared.Instruction.{Instruction}
-use Rattle.isa.specs.declared.Instruction.the-variants.{Predicated, Quarter, Zero}
 use Rattle.text.specs.Ascii.{ascii}
-use Rattle.text.specs.Printing.{roomAfter}
-use Rattle.text.specs.Claims.{lengthIn}
+use Rattle.text.specs.Printing.{printLength, roomAfter}
 use Rattle.storage.specs.Tile.{start, element}
+use Rattle.replay.specs.Machine.{on}
+use Rattle.replay.specs.Instructions.{TileName, tileNamed}
 use Rattle.replay.specs.Lists.{played}
 use Rattle.replay.specs.declared.Bench.{Bench}
 
@@ -25,11 +24,9 @@ pub data Question : Type 0 where
   za-after : (z p za words : List ℕ) → Question
   element-after : (E t row col : ℕ) (z p za words : List ℕ) → Question
 
-abbrev pub tileOf : Option Instruction → List ℕ
-tileOf none = []
-tileOf (some (Predicated op t pn pm zn zm)) = t .0 ∷ []
-tileOf (some (Quarter op t first second)) = t .0 ∷ []
-tileOf (some (Zero m)) = []
+abbrev pub numberOf : Option TileName → List ℕ
+numberOf none = []
+numberOf (some n) = n .tile ∷ []
 
 abbrev pub room : List ℕ
 room = replicate 64 0
@@ -38,12 +35,12 @@ abbrev pub bench16 : Bench
 bench16 = record { flags = 7; sm = true; za = true; vb = 16 }
 
 abbrev pub answerTo : Question → List ℕ
-answerTo (text flags w) = take (lengthIn flags w room) (roomAfter flags w room)
+answerTo (text flags w) = take (printLength flags w (length room)) (roomAfter flags w room)
 answerTo (number flags w) = decodeNumber flags w ∷ []
-answerTo (tile w) = tileOf (describe w)
+answerTo (tile w) = numberOf (tileNamed (describe w))
 answerTo (address E vb t row col) = start E vb t row col ∷ []
-answerTo (za-after z p za ws) = played bench16 z p za ws
-answerTo (element-after E t row col z p za ws) = element E 16 t (played bench16 z p za ws) row col ∷ []
+answerTo (za-after z p za ws) = played (on bench16 z p za) ws .za
+answerTo (element-after E t row col z p za ws) = element E 16 t (played (on bench16 z p za) ws .za) row col ∷ []
 
 -- ---- their buffers: 32 vectors of 16 bytes, 16 predicates of 2 bytes, 16 rows of ZA
 abbrev pub full : ℕ → List ℕ

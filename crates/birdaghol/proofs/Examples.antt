@@ -4,10 +4,10 @@ use mathlib.Core.List.{map}
 use Rattle.isa.specs.Answers.{describe, missing, decodeOf, encodeOf}
 use Rattle.text.specs.Spelling.{spelling}
 use Rattle.text.specs.Printing.{textOf, printOf}
-use Rattle.replay.specs.Execution.{refusalOf}
-use Rattle.replay.specs.Lists.{before, stop, ran, runOf}
+use Rattle.replay.specs.Execution.{refusalOf, after}
+use Rattle.replay.specs.Lists.{played, before, stop, ran, runOf}
 use Rattle.birdaghol.specs.Examples.{Example, examples}
 
 pub examples-hold : map (λ (e : Example). e .call) examples ≡ map (λ (e : Example). e .gives) examples
-unfolding decodeOf describe missing encodeOf spelling textOf printOf refusalOf before stop ran runOf
+unfolding decodeOf describe missing encodeOf spelling textOf printOf refusalOf after played before stop ran runOf
 examples-hold = refl

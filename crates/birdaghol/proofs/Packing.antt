@@ -9,7 +9,7 @@ use Rattle.text.specs.declared.Printed.the-variants.{Length}
 use Rattle.text.proofs.Theorems.{prints}
 use Rattle.replay.specs.Execution.{outcomeNumber}
 use Rattle.replay.specs.Lists.{mostWords, runOf}
-use Rattle.replay.specs.declared.Bench.{Bench}
+use Rattle.replay.specs.Machine.{Machine}
 use Rattle.replay.specs.declared.Ended.{Ended}
 use Rattle.replay.proofs.Theorems.{runs}
 use Rattle.birdaghol.specs.Calls.{packed, runCall}
@@ -27,8 +27,8 @@ printed-short flags w room n e =
     let l = ap printedLength e in
     omega arith
 
-pub run-short : (b : Bench) (z p za ws : List ℕ) (e : Ended) → e ≡ runOf b z p za ws → e .count ≤ mostWords
-run-short b z p za ws e h = subst (λ (e : Ended). e .count ≤ mostWords) (sym h) (runs b z p za ws .most)
+pub run-short : (m : Machine) (ws : List ℕ) (e : Ended) → e ≡ runOf m ws → e .count ≤ mostWords
+run-short m ws e h = subst (λ (e : Ended). e .count ≤ mostWords) (sym h) (runs m ws .most)
 
-pub ended-packed : (b : Bench) (z p za ws : List ℕ) (e : Ended) (n : ℕ) → e ≡ runOf b z p za ws → n ≡ outcomeNumber (e .outcome) → packed (e .count) n ≡ runCall b z p za ws
-ended-packed b z p za ws e n h k = ap (packed (e .count)) k ∙ ap (λ (e : Ended). packed (e .count) (outcomeNumber (e .outcome))) h
+pub ended-packed : (m : Machine) (ws : List ℕ) (e : Ended) (n : ℕ) → e ≡ runOf m ws → n ≡ outcomeNumber (e .outcome) → packed (e .count) n ≡ runCall m ws
+ended-packed m ws e n h k = ap (packed (e .count)) k ∙ ap (λ (e : Ended). packed (e .count) (outcomeNumber (e .outcome))) h

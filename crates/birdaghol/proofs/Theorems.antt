@@ -9,7 +9,7 @@ use native.Mathlib.Omega.{arith}
 use lib.Dec.{eqb}
 use lib.ListN.{length}
 use borrow.Author.Tests.{eqb-true, ltb-true, leb-true, eq-eqb, lt-ltb, le-leb}
-use Rattle.isa.specs.Table.{tilesOf, ranges, inRange}
+use Rattle.isa.specs.Table.{ranges, inRange}
 use Rattle.isa.specs.Claims.{OnlyWord}
 use Rattle.isa.specs.declared.Instruction.{Instruction}
 use Rattle.isa.specs.declared.Instruction.the-variants.{Zero}
@@ -23,11 +23,12 @@ use Rattle.text.specs.declared.Printed.{Printed}
 use Rattle.text.specs.declared.Printed.the-variants.{Length, Refused as NotPrinted}
 use Rattle.replay.specs.Execution.{outcomeNumber}
 use Rattle.replay.specs.Lists.{runOf}
-use Rattle.replay.specs.declared.Bench.{Bench}
+use Rattle.replay.specs.Machine.{Machine}
 use Rattle.replay.specs.declared.Outcome.{Outcome}
 use Rattle.replay.specs.declared.Outcome.the-variants.{Done, Refused}
-use Rattle.birdaghol.specs.Calls.{packed, sized, packedEncoded, encodeCall, predicatedOf, quarterOf}
-use Rattle.birdaghol.specs.Claims.{Unpacks, PrintUnpacks, RunUnpacks, ElementSize, PredicatedFits, QuarterFits, EncodeAnswers, PredicatedAnswers, QuarterAnswers, ZeroAnswers}
+use Rattle.birdaghol.specs.Calls.{packed, sized, packedEncoded, encodeCall, askedPredicated, askedQuarter}
+use Rattle.birdaghol.specs.Claims.{Unpacks, PrintUnpacks, RunUnpacks, ElementSize, PredicatedFits, QuarterFits}
+use Rattle.birdaghol.specs.Claims.{EncodeAnswers, PredicatedAnswers, QuarterAnswers, ZeroAnswers}
 
 unpacks : (v n : ℕ) → n < 256 → Unpacks (packed v n) v n
 unpacks v n h = record { value-is = omega arith; refusal-is = omega arith }
@@ -43,8 +44,8 @@ outcome-number (Refused r) = omega (arith, number-between r .1)
 pub print-unpacks : (flags w : ℕ) (room : List ℕ) → PrintUnpacks flags w room
 print-unpacks flags w room = unpacks _ _ (printed-number (printOf flags w (length room)))
 
-pub run-unpacks : (b : Bench) (z p za ws : List ℕ) → RunUnpacks b z p za ws
-run-unpacks b z p za ws = unpacks _ _ (outcome-number (runOf b z p za ws .outcome))
+pub run-unpacks : (m : Machine) (ws : List ℕ) → RunUnpacks m ws
+run-unpacks m ws = unpacks _ _ (outcome-number (runOf m ws .outcome))
 
 -- ---- encode
 abbrev size? : ℕ → Bool
@@ -61,12 +62,13 @@ size-passed bytes h = go (eqb bytes 4) refl h
     go true e h = inl (eqb-true bytes 4 e)
     go false e h = inr (eqb-true bytes 8 h)
 
-tiles-of-size : (bytes : ℕ) → ElementSize bytes → tilesOf (eqb bytes 8) ≡ bytes
+tiles-of-size : (bytes : ℕ) → ElementSize bytes → cond (eqb bytes 8) 8 4 ≡ bytes
 tiles-of-size bytes (inl e) = rw e
 tiles-of-size bytes (inr e) = rw e
 
 -- an encode whose tests pass exactly where its arguments fit
-module _ (bytes : ℕ) (i : Instruction) {Fits : Type 0} (passes : Fits → (size? bytes ≡ true) × (inRange i ≡ true)) (passed : size? bytes ≡ true → inRange i ≡ true → Fits) where
+module _ (bytes : ℕ) (i : Instruction) {Fits : Type 0}
+    (passes : Fits → (size? bytes ≡ true) × (inRange i ≡ true)) (passed : size? bytes ≡ true → inRange i ≡ true → Fits) where
   fitting : Fits → (w : ℕ) × Unpacks (encodeCall (sized bytes i)) w 0 × OnlyWord i w
   fitting f =
       let (s, r) = passes f in
@@ -87,7 +89,7 @@ module _ (bytes : ℕ) (i : Instruction) {Fits : Type 0} (passes : Fits → (siz
 
 module _ (bytes : ℕ) (u0 u1 subtract : Bool) (tile pn pm zn zm : ℕ) where
   abbrev predicated : Instruction
-  predicated = predicatedOf bytes u0 u1 subtract tile pn pm zn zm
+  predicated = askedPredicated bytes u0 u1 subtract tile pn pm zn zm
 
   predicated-passes : PredicatedFits bytes tile pn pm zn zm → (size? bytes ≡ true) × (inRange predicated ≡ true)
   predicated-passes f =
@@ -112,7 +114,7 @@ module _ (bytes : ℕ) (u0 u1 subtract : Bool) (tile pn pm zn zm : ℕ) where
 
 module _ (bytes : ℕ) (u0 u1 subtract : Bool) (tile first : ℕ) (firstPair : Bool) (second : ℕ) (secondPair : Bool) where
   abbrev quarter : Instruction
-  quarter = quarterOf bytes u0 u1 subtract tile first firstPair second secondPair
+  quarter = askedQuarter bytes u0 u1 subtract tile first firstPair second secondPair
 
   quarter-passes : QuarterFits bytes tile first second → (size? bytes ≡ true) × (inRange quarter ≡ true)
   quarter-passes f = (
@@ -139,4 +141,7 @@ module _ (bytes : ℕ) (u0 u1 subtract : Bool) (tile first : ℕ) (firstPair : B
   quarter-answers = answers bytes quarter quarter-passes quarter-passed
 
 pub zero-answers : (mask : ℕ) → ZeroAnswers mask
-zero-answers mask = answers 4 (Zero mask) (λ h. (refl, all-every (ranges (Zero mask)) (lt-ltb mask 256 h, tt))) (λ s r. ltb-true mask 256 (every-all (ranges (Zero mask)) r .0))
+zero-answers mask =
+    answers 4 (Zero mask)
+    (λ h. (refl, all-every (ranges (Zero mask)) (lt-ltb mask 256 h, tt)))
+    (λ s r. ltb-true mask 256 (every-all (ranges (Zero mask)) r .0))

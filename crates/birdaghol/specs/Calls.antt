@@ -15,6 +15,7 @@ use Rattle.isa.specs.Table.{source}
 use Rattle.text.specs.Printing.{printOf, printedNumber, printedLength}
 use Rattle.text.specs.declared.Printed.{Printed}
 use Rattle.replay.specs.declared.Bench.{Bench}
+use Rattle.replay.specs.Machine.{Machine}
 use Rattle.replay.specs.Claims.{runNumber, runCount}
 
 abbrev pub packed : ℕ → ℕ → ℕ
@@ -27,19 +28,19 @@ packedPrinted a = packed (printedLength a) (printedNumber a)
 abbrev pub printCall : ℕ → ℕ → ℕ → ℕ
 printCall flags w room = packedPrinted (printOf flags w room)
 
--- ---- encode: what the arguments describe, by the bytes of a tile's element; sizes other than 4 and 8 describe nothing
+-- ---- encode: the description that the arguments ask for; tile elements of other than 4 or 8 bytes ask for none
 abbrev pub sized : ℕ → Instruction → Option Instruction
 sized bytes i = cond (eqb bytes 4 || eqb bytes 8) (some i) none
 
 abbrev pub operation : ℕ → Bool → Bool → Bool → Operation
 operation bytes u0 u1 subtract = record { wide = eqb bytes 8; u0 = u0; u1 = u1; subtract = subtract }
 
-abbrev pub predicatedOf : ℕ → Bool → Bool → Bool → ℕ → ℕ → ℕ → ℕ → ℕ → Instruction
-predicatedOf bytes u0 u1 subtract tile pn pm zn zm =
+abbrev pub askedPredicated : ℕ → Bool → Bool → Bool → ℕ → ℕ → ℕ → ℕ → ℕ → Instruction
+askedPredicated bytes u0 u1 subtract tile pn pm zn zm =
     Predicated (operation bytes u0 u1 subtract) (record { 0 = tile }) (record { 0 = pn }) (record { 0 = pm }) (record { 0 = zn }) (record { 0 = zm })
 
-abbrev pub quarterOf : ℕ → Bool → Bool → Bool → ℕ → ℕ → Bool → ℕ → Bool → Instruction
-quarterOf bytes u0 u1 subtract tile first firstPair second secondPair =
+abbrev pub askedQuarter : ℕ → Bool → Bool → Bool → ℕ → ℕ → Bool → ℕ → Bool → Instruction
+askedQuarter bytes u0 u1 subtract tile first firstPair second secondPair =
     Quarter (operation bytes u0 u1 subtract) (record { 0 = tile }) (source firstPair first) (source secondPair second)
 
 abbrev pub packedEncoded : Encoded → ℕ
@@ -50,10 +51,12 @@ encodeCall none = packed 0 (number OutOfRange)
 encodeCall (some i) = packedEncoded (encodeOf i)
 
 abbrev pub predicatedCall : ℕ → Bool → Bool → Bool → ℕ → ℕ → ℕ → ℕ → ℕ → ℕ
-predicatedCall bytes u0 u1 subtract tile pn pm zn zm = encodeCall (sized bytes (predicatedOf bytes u0 u1 subtract tile pn pm zn zm))
+predicatedCall bytes u0 u1 subtract tile pn pm zn zm =
+    encodeCall (sized bytes (askedPredicated bytes u0 u1 subtract tile pn pm zn zm))
 
 abbrev pub quarterCall : ℕ → Bool → Bool → Bool → ℕ → ℕ → Bool → ℕ → Bool → ℕ
-quarterCall bytes u0 u1 subtract tile first firstPair second secondPair = encodeCall (sized bytes (quarterOf bytes u0 u1 subtract tile first firstPair second secondPair))
+quarterCall bytes u0 u1 subtract tile first firstPair second secondPair =
+    encodeCall (sized bytes (askedQuarter bytes u0 u1 subtract tile first firstPair second secondPair))
 
 abbrev pub zeroCall : ℕ → ℕ
 zeroCall mask = encodeCall (some (Zero mask))
@@ -62,5 +65,5 @@ zeroCall mask = encodeCall (some (Zero mask))
 abbrev pub benchOf : ℕ → Bool → Bool → ℕ → Bench
 benchOf flags streaming zaOn vb = record { flags = flags; sm = streaming; za = zaOn; vb = vb }
 
-abbrev pub runCall : Bench → List ℕ → List ℕ → List ℕ → List ℕ → ℕ
-runCall b z p za ws = packed (runCount b z p za ws) (runNumber b z p za ws)
+abbrev pub runCall : Machine → List ℕ → ℕ
+runCall m ws = packed (runCount m ws) (runNumber m ws)

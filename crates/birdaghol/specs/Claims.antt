@@ -8,10 +8,10 @@ use lib.ListN.{length}
 use Rattle.isa.specs.Claims.{OnlyWord}
 use Rattle.isa.specs.declared.Instruction.{Instruction}
 use Rattle.isa.specs.declared.Instruction.the-variants.{Zero}
-use Rattle.text.specs.Claims.{numberIn, lengthIn}
+use Rattle.text.specs.Printing.{printNumber, printLength}
 use Rattle.replay.specs.Claims.{runNumber, runCount}
-use Rattle.replay.specs.declared.Bench.{Bench}
-use Rattle.birdaghol.specs.Calls.{printCall, predicatedOf, quarterOf, predicatedCall, quarterCall, zeroCall, runCall}
+use Rattle.replay.specs.Machine.{Machine}
+use Rattle.birdaghol.specs.Calls.{printCall, askedPredicated, askedQuarter, predicatedCall, quarterCall, zeroCall, runCall}
 
 -- the value is the answer divided by 256, the refusal what is left over
 pub record Unpacks (answer value refusal : ℕ) : Type 0 where
@@ -19,12 +19,12 @@ pub record Unpacks (answer value refusal : ℕ) : Type 0 where
   pub refusal-is : answer % 256 ≡ refusal
 
 abbrev pub PrintUnpacks : ℕ → ℕ → List ℕ → Type 0
-PrintUnpacks flags w room = Unpacks (printCall flags w (length room)) (lengthIn flags w room) (numberIn flags w room)
+PrintUnpacks flags w room = Unpacks (printCall flags w (length room)) (printLength flags w (length room)) (printNumber flags w (length room))
 
-abbrev pub RunUnpacks : Bench → List ℕ → List ℕ → List ℕ → List ℕ → Type 0
-RunUnpacks b z p za ws = Unpacks (runCall b z p za ws) (runCount b z p za ws) (runNumber b z p za ws)
+abbrev pub RunUnpacks : Machine → List ℕ → Type 0
+RunUnpacks m ws = Unpacks (runCall m ws) (runCount m ws) (runNumber m ws)
 
--- ---- encode: the arguments that are in range; a tile of either width has as many siblings as its elements have bytes
+-- ---- encode: the arguments that are in range; there are as many tiles of a size as an element has bytes
 abbrev pub ElementSize : ℕ → Type 0
 ElementSize bytes = (bytes ≡ 4) ⊎ (bytes ≡ 8)
 
@@ -52,11 +52,13 @@ pub record EncodeAnswers (answer : ℕ) (i : Instruction) (Fits : Type 0) : Type
 
 abbrev pub PredicatedAnswers : ℕ → Bool → Bool → Bool → ℕ → ℕ → ℕ → ℕ → ℕ → Type 0
 PredicatedAnswers bytes u0 u1 subtract tile pn pm zn zm =
-    EncodeAnswers (predicatedCall bytes u0 u1 subtract tile pn pm zn zm) (predicatedOf bytes u0 u1 subtract tile pn pm zn zm) (PredicatedFits bytes tile pn pm zn zm)
+    EncodeAnswers (predicatedCall bytes u0 u1 subtract tile pn pm zn zm)
+    (askedPredicated bytes u0 u1 subtract tile pn pm zn zm) (PredicatedFits bytes tile pn pm zn zm)
 
 abbrev pub QuarterAnswers : ℕ → Bool → Bool → Bool → ℕ → ℕ → Bool → ℕ → Bool → Type 0
 QuarterAnswers bytes u0 u1 subtract tile first firstPair second secondPair =
-    EncodeAnswers (quarterCall bytes u0 u1 subtract tile first firstPair second secondPair) (quarterOf bytes u0 u1 subtract tile first firstPair second secondPair) (QuarterFits bytes tile first second)
+    EncodeAnswers (quarterCall bytes u0 u1 subtract tile first firstPair second secondPair)
+    (askedQuarter bytes u0 u1 subtract tile first firstPair second secondPair) (QuarterFits bytes tile first second)
 
 -- every byte is a good mask
 abbrev pub ZeroAnswers : ℕ → Type 0

@@ -5,6 +5,7 @@ use mathlib.Core.List.{List, [], _∷_}
 use Prim.Native.Nat.{ℕ, _+_, _*_}
 use lib.ListN.{replicate}
 use Rattle.isa.specs.Answers.{decodeNumber}
+use Rattle.replay.specs.Machine.{on}
 use Rattle.replay.specs.Claims.{executeNumber}
 use Rattle.birdaghol.specs.Calls.{printCall, predicatedCall, quarterCall, zeroCall, benchOf, runCall}
 
@@ -17,10 +18,10 @@ abbrev zeros : ℕ → List ℕ
 zeros n = replicate n 0
 
 abbrev executed : ℕ → Bool → Bool → ℕ → ℕ → ℕ
-executed flags streaming zaOn vb w = executeNumber (benchOf flags streaming zaOn vb) (zeros 512) (zeros 32) (zeros 256) w
+executed flags streaming zaOn vb w = executeNumber (on (benchOf flags streaming zaOn vb) (zeros 512) (zeros 32) (zeros 256)) w
 
 abbrev ran : Bool → Bool → ℕ → List ℕ → ℕ
-ran streaming zaOn p ws = runCall (benchOf 7 streaming zaOn 16) (zeros 512) (zeros p) (zeros 256) ws
+ran streaming zaOn p ws = runCall (on (benchOf 7 streaming zaOn 16) (zeros 512) (zeros p) (zeros 256)) ws
 
 abbrev pub examples : List Example
 examples =

@@ -4,8 +4,9 @@ ghost use mathlib.Core.Option.{some};
 ghost use lib.ListN.{length};
 ghost use Rattle.isa.specs.Answers.{decodeNumber};
 ghost use Rattle.text.specs.Printing.{roomAfter};
-ghost use Rattle.replay.specs.Execution.{zaAfter, outcomeNumber};
-ghost use Rattle.replay.specs.Lists.{runZa};
+ghost use Rattle.replay.specs.Machine.{on};
+ghost use Rattle.replay.specs.Execution.{after, outcomeNumber};
+ghost use Rattle.replay.specs.Lists.{runLeft};
 ghost use Rattle.replay.specs.Claims.{executeNumber};
 ghost use Rattle.birdaghol.specs.Calls.{printCall, sized, operation, predicatedCall, quarterCall, zeroCall, encodeCall, benchOf, runCall};
 use isa::Decoded;
@@ -118,8 +119,8 @@ pub extern "C" fn birdaghol_execute(
     za: &mut [u8],
     word: u32,
 ) -> u32
-    ensures { λ r. ⌜ r ≡ executeNumber (benchOf flags streaming «za_on» vb) (now (z .entry)) (now (p .entry)) (now (za .entry)) word ⌝ }
-    ensures { λ _. ⌜ now (za .exit) ≡ zaAfter (benchOf flags streaming «za_on» vb) (now (z .entry)) (now (p .entry)) (now (za .entry)) word ⌝ }
+    ensures { λ r. ⌜ r ≡ executeNumber (on (benchOf flags streaming «za_on» vb) (now (z .entry)) (now (p .entry)) (now (za .entry))) word ⌝ }
+    ensures { λ _. ⌜ now (za .exit) ≡ after (on (benchOf flags streaming «za_on» vb) (now (z .entry)) (now (p .entry)) (now (za .entry))) word .za ⌝ }
 {
     refusal_of(replay::execute(bench_of(flags, streaming, za_on, vb), z, p, za, word))
 }
@@ -136,8 +137,8 @@ pub extern "C" fn birdaghol_run(
     za: &mut [u8],
     words: &[u32],
 ) -> u64
-    ensures { λ r. ⌜ r ≡ runCall (benchOf flags streaming «za_on» vb) (now (z .entry)) (now (p .entry)) (now (za .entry)) (now (words .entry)) ⌝ }
-    ensures { λ _. ⌜ now (za .exit) ≡ runZa (benchOf flags streaming «za_on» vb) (now (z .entry)) (now (p .entry)) (now (za .entry)) (now (words .entry)) ⌝ }
+    ensures { λ r. ⌜ r ≡ runCall (on (benchOf flags streaming «za_on» vb) (now (z .entry)) (now (p .entry)) (now (za .entry))) (now (words .entry)) ⌝ }
+    ensures { λ _. ⌜ now (za .exit) ≡ runLeft (on (benchOf flags streaming «za_on» vb) (now (z .entry)) (now (p .entry)) (now (za .entry))) (now (words .entry)) .za ⌝ }
 {
     let ended = replay::run(bench_of(flags, streaming, za_on, vb), z, p, za, words);
     let outcome = ended.outcome;

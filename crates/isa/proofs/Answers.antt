@@ -48,7 +48,8 @@ pub decode-unlisted : (flags w : ℕ) → flags ≤ allFlags → lookup table w 
 unfolding decodeOf describe
 decode-unlisted flags w h p = rw (le-ltb allFlags flags h, p)
 
-pub decode-listed : (flags w : ℕ) (e : Entry) → flags ≤ allFlags → lookup table w ≡ some e → decodeOf flags w ≡ allowed (lacking flags (e .needs)) (described e w)
+pub decode-listed : (flags w : ℕ) (e : Entry) → flags ≤ allFlags → lookup table w ≡ some e
+    → decodeOf flags w ≡ allowed (lacking flags (e .needs)) (described e w)
 unfolding decodeOf describe missing
 decode-listed flags w e h p = rw (le-ltb allFlags flags h, p) (go (eqb (lacking flags (e .needs)) 0))
   where
@@ -56,7 +57,19 @@ decode-listed flags w e h p = rw (le-ltb allFlags flags h, p) (go (eqb (lacking 
     go true = refl
     go false = refl
 
--- an unlisted word fails a test
+-- ---- an answer that was decided by tests and a description
+pub decided-accepted : (o : Option Refusal) (d : Option Instruction) (i : Instruction) → decided o d ≡ Accepted i → (o ≡ none) × (d ≡ some i)
+decided-accepted (some r) d i p = let z : _≡_ {A = ℕ} 0 1 = cc in absurd (omega arith)
+decided-accepted none none i p = let z : _≡_ {A = ℕ} 0 1 = cc in absurd (omega arith)
+decided-accepted none (some j) i p = let z : j ≡ i = cc in (refl, ap {B = Option Instruction} some z)
+
+-- where a word without a description fails a test
+pub decided-refused : (o : Option Refusal) (d : Option Instruction) (r : Refusal) → (d ≡ none → o ≡ none → ⊥) → decided o d ≡ NotDecoded r → o ≡ some r
+decided-refused (some s) d r u p = let z : s ≡ r = cc in ap {B = Option Refusal} some z
+decided-refused none none r u p = absurd (u refl refl)
+decided-refused none (some j) r u p = let z : _≡_ {A = ℕ} 0 1 = cc in absurd (omega arith)
+
+-- an unlisted word fails a test of decode's
 unlisted-fails : (flags w : ℕ) → describe w ≡ none → firstFailure (decodeTests flags w) ≡ none → ⊥
 unlisted-fails flags w d p = go (ltb allFlags flags) (rw d at p)
   where
@@ -67,22 +80,12 @@ unlisted-fails flags w d p = go (ltb allFlags flags) (rw d at p)
 -- decode's answer by its tests, for those who make further tests
 pub decode-refused : (flags w : ℕ) (r : Refusal) → decodeOf flags w ≡ NotDecoded r → firstFailure (decodeTests flags w) ≡ some r
 unfolding decodeOf
-decode-refused flags w r p = go (firstFailure (decodeTests flags w)) (describe w) refl refl p
-  where
-    go : (o : Option Refusal) (d : Option Instruction) → firstFailure (decodeTests flags w) ≡ o → describe w ≡ d → decided o d ≡ NotDecoded r → firstFailure (decodeTests flags w) ≡ some r
-    go (some q) d e f h = let z : q ≡ r = cc in e ∙ ap {B = Option Refusal} some z
-    go none (some i) e f h = let z : _≡_ {A = ℕ} 0 1 = cc in absurd (omega arith)
-    go none none e f h = absurd (unlisted-fails flags w f e)
+decode-refused flags w r = decided-refused (firstFailure (decodeTests flags w)) (describe w) r (unlisted-fails flags w)
 
-pub decode-passed : (flags w : ℕ) (i : Instruction) → decodeOf flags w ≡ Accepted i → (firstFailure (decodeTests flags w) ≡ none) × (describe w ≡ some i)
+pub decode-passed : (flags w : ℕ) (i : Instruction) → decodeOf flags w ≡ Accepted i
+    → (firstFailure (decodeTests flags w) ≡ none) × (describe w ≡ some i)
 unfolding decodeOf
-decode-passed flags w i p = go (firstFailure (decodeTests flags w)) (describe w) refl refl p
-  where
-    go : (o : Option Refusal) (d : Option Instruction) → firstFailure (decodeTests flags w) ≡ o → describe w ≡ d → decided o d ≡ Accepted i
-        → (firstFailure (decodeTests flags w) ≡ none) × (describe w ≡ some i)
-    go (some q) d e f h = let z : _≡_ {A = ℕ} 0 1 = cc in absurd (omega arith)
-    go none (some j) e f h = let z : j ≡ i = cc in (e, f ∙ ap {B = Option Instruction} some z)
-    go none none e f h = let z : _≡_ {A = ℕ} 0 1 = cc in absurd (omega arith)
+decode-passed flags w i = decided-accepted (firstFailure (decodeTests flags w)) (describe w) i
 
 -- ---- the description of a word
 pub describe-found : {e : Entry} (w : ℕ) → List·Memᴰ e table → matches (e .row) w ≡ true → describe w ≡ some (described e w)

@@ -1,14 +1,15 @@
 -- What the table's lines have in common: each row is sound and has 32 bits, values that fit a row make a description
 -- that is in range and has those values, and a description in range fits its row. Assumes nothing.
-use mathlib.Core.Path.{_≡_, _∙_, ap, refl}
-use mathlib.Core.Bool.{Bool, true, false}
+use mathlib.Core.Path.{_≡_, _∙_, sym, ap, refl}
+use mathlib.Core.Bool.{Bool, true, false, cond}
 use mathlib.Core.List.{List, [], _∷_, List·Memᴰ, List·Memᴰ·head, List·Memᴰ·tail}
 use Prim.Native.Nat.{ℕ, zero, suc, _+_, _-_, _*_, _/_, _%_, _^_, _<_, _≤_}
+use native.Mathlib.Nat.{div-one}
 use native.Mathlib.Omega.{arith}
 use lib.Dec.{eqb, ltb, leb}
 use borrow.Author.Tests.{eq-eqb, eqb-true, ltb-true, leb-true, lt-ltb, le-leb}
-use Rattle.isa.specs.Row.{u0, u1, S, ZAda, Zn, Zm, N, M, mask, Fields, size, every, wordOf, fieldOf, matches}
-use Rattle.isa.specs.Table.{predicatedFrom, quarterFrom, predicated64, quarter64, one?, bit, source, isPair, register, Entry, predicated, quarter, table, described, entryOf, fieldsFrom, wordFor, tilesOf, ranges, inRange}
+use Rattle.isa.specs.Row.{u0, u1, S, ZAda, Zn, Zm, Pn, Pm, N, M, mask, field, Row, Fields, size, every, wordOf, fieldOf, matches}
+use Rattle.isa.specs.Table.{predicated64, quarter64, one?, bit, source, isPair, register, Entry, predicated, quarter, zeroing, table, described, entryOf, fieldsFrom, wordFor, elementBytes, tilesOf, ranges, inRange}
 use Rattle.isa.specs.declared.Tile.{Tile}
 use Rattle.isa.specs.declared.Predicate.{Predicate}
 use Rattle.isa.specs.declared.Vector.{Vector}
@@ -18,7 +19,7 @@ use Rattle.isa.specs.declared.Source.the-variants.{One, Pair}
 use Rattle.isa.specs.declared.Instruction.{Instruction}
 use Rattle.isa.specs.declared.Instruction.the-variants.{Predicated, Quarter, Zero}
 use Rattle.isa.proofs.Tests.{All, every-all, all-every}
-use Rattle.isa.proofs.Rows.{Fit, Agree, soundness, Sound, agree-word, word-lt, word-matches, fields-back, fields-fit, word-is}
+use Rattle.isa.proofs.Rows.{Fit, Agree, soundness, Sound, unfixed, fit-unfixed, agree-unfixed, agree-word, word-lt, word-matches, fields-back, fields-fit, word-is}
 
 -- ---- a test of every line
 abbrev pub checked : (Entry → Bool) → List Entry → List Bool
@@ -40,7 +41,7 @@ line-sound {e} m =
     let t = every-all (eqb (size (e .row)) 32 ∷ soundness (e .row)) (at-line soundLine table (every-all (checked soundLine table) table-sound) m) in
     (eqb-true _ _ (t .0), t .1)
 
--- ---- bits and sources
+-- ---- bits, sources and tiles
 pub bit-lt : (b : Bool) → bit b < 2
 bit-lt true = omega arith
 bit-lt false = omega arith
@@ -48,10 +49,6 @@ bit-lt false = omega arith
 -- the bits of an operation
 pub bits-lt : (op : Operation) → (bit (op .u0) < 2) × (bit (op .u1) < 2) × (bit (op .subtract) < 2)
 bits-lt op = (bit-lt (op .u0), bit-lt (op .u1), bit-lt (op .subtract))
-
-tiles-le : (wide : Bool) → tilesOf wide ≤ 8
-tiles-le true = omega arith
-tiles-le false = omega arith
 
 one-bit : (b : Bool) → one? (bit b) ≡ b
 one-bit true = refl
@@ -61,6 +58,10 @@ bit-one : (v : ℕ) → v < 2 → bit (one? v) ≡ v
 bit-one zero h = refl
 bit-one (suc zero) h = refl
 bit-one (suc (suc v)) h = absurd (omega arith)
+
+-- the bits of an operation come back from its fields
+bits-one : (f : Fields) → (f u0 < 2) × (f u1 < 2) × (f S < 2) → (bit (one? (f u0)) ≡ f u0) × (bit (one? (f u1)) ≡ f u1) × (bit (one? (f S)) ≡ f S)
+bits-one f h = (bit-one (f u0) (h .0), bit-one (f u1) (h .1), bit-one (f S) (h .2))
 
 source-pair : (b : Bool) (n : ℕ) → isPair (source b n) ≡ b
 source-pair true n = refl
@@ -74,135 +75,156 @@ source-back : (s : Source) (n : ℕ) → n ≡ register s → source (one? (bit 
 source-back (One v) n e = rw e
 source-back (Pair v) n e = rw e
 
--- ---- the two widths of a family name the same fields; only the tile's number differs in width
-module _ (f : Fields) where
-  predicated-fit : (wide : Bool) → Fit (predicated wide .row) f → Fit predicated64 f × (f ZAda < tilesOf wide)
-  predicated-fit true t = omega arith
-  predicated-fit false t = omega arith
+pub element-between : (op : Operation) → (0 < elementBytes op) × (elementBytes op ≤ 8)
+element-between op = go (op .wide)
+  where
+    go : (wide : Bool) → (0 < cond wide 8 4) × (cond wide 8 4 ≤ 8)
+    go true = omega arith
+    go false = omega arith
 
-  fit-predicated : (wide : Bool) → Fit predicated64 f → f ZAda < tilesOf wide → Fit (predicated wide .row) f
-  fit-predicated true t h = omega arith
-  fit-predicated false t h = omega arith
+-- the tile that the lowest bits number, as many as an operation's elements need
+pub tile-read : (w : ℕ) {op q : Operation} {tile : Tile} → op ≡ q → tile ≡ record { 0 = w % tilesOf (elementBytes op) }
+    → tile ≡ record { 0 = w / 1 % tilesOf (elementBytes q) }
+tile-read w p t = t ∙ rw (p, div-one w)
 
-  quarter-fit : (wide : Bool) → Fit (quarter wide .row) f → Fit quarter64 f × (f ZAda < tilesOf wide)
-  quarter-fit true t = omega arith
-  quarter-fit false t = omega arith
+-- ---- the two families of outer products, each a line for each width
+data Family : Type 0 where
+  predicates quarters : Family
 
-  fit-quarter : (wide : Bool) → Fit quarter64 f → f ZAda < tilesOf wide → Fit (quarter wide .row) f
-  fit-quarter true t h = omega arith
-  fit-quarter false t h = omega arith
+abbrev line : Family → Bool → Entry
+line predicates wide = predicated wide
+line quarters wide = quarter wide
 
-module _ (f g : Fields) where
-  predicated-agree : (wide : Bool) → Agree (predicated wide .row) f g → Agree predicated64 f g
-  predicated-agree true a = a
-  predicated-agree false a = a
+line-in : (k : Family) (wide : Bool) → List·Memᴰ (line k wide) table
+line-in predicates false = List·Memᴰ·head refl
+line-in predicates true = List·Memᴰ·tail (List·Memᴰ·head refl)
+line-in quarters false = List·Memᴰ·tail (List·Memᴰ·tail (List·Memᴰ·head refl))
+line-in quarters true = List·Memᴰ·tail (List·Memᴰ·tail (List·Memᴰ·tail (List·Memᴰ·head refl)))
 
-  agree-predicated : (wide : Bool) → Agree predicated64 f g → Agree (predicated wide .row) f g
-  agree-predicated true a = a
-  agree-predicated false a = a
+-- the fields of a family's rows: the same at either width but for the tile's number
+abbrev tileBits : Bool → ℕ
+tileBits wide = cond wide 3 2
 
-  quarter-agree : (wide : Bool) → Agree (quarter wide .row) f g → Agree quarter64 f g
-  quarter-agree true a = a
-  quarter-agree false a = a
+abbrev fieldsOf : Family → Bool → Row
+fieldsOf predicates wide =
+    field u0 1 ∷ field u1 1 ∷ field Zm 5 ∷ field Pm 3 ∷ field Pn 3 ∷ field Zn 5 ∷ field S 1 ∷ field ZAda (tileBits wide) ∷ []
+fieldsOf quarters wide =
+    field u0 1 ∷ field u1 1 ∷ field M 1 ∷ field Zm 3 ∷ field N 1 ∷ field Zn 3 ∷ field S 1 ∷ field ZAda (tileBits wide) ∷ []
 
-  agree-quarter : (wide : Bool) → Agree quarter64 f g → Agree (quarter wide .row) f g
-  agree-quarter true a = a
-  agree-quarter false a = a
+line-fields : (k : Family) (wide : Bool) → unfixed (line k wide .row) ≡ fieldsOf k wide
+line-fields predicates false = refl
+line-fields predicates true = refl
+line-fields quarters false = refl
+line-fields quarters true = refl
+
+-- a tile's number has as many values as there are tiles
+tile-bits : (wide : Bool) → 2 ^ tileBits wide ≡ cond wide 8 4
+tile-bits true = refl
+tile-bits false = refl
+
+module _ (k : Family) (wide : Bool) where
+  fit-is : (f : Fields) → Fit (fieldsOf k wide) f ≡ Fit (line k wide .row) f
+  fit-is f = ap (λ (r : Row). Fit r f) (sym (line-fields k wide)) ∙ fit-unfixed (line k wide .row) f
+
+  agree-is : (f g : Fields) → Agree (fieldsOf k wide) f g ≡ Agree (line k wide .row) f g
+  agree-is f g = ap (λ (r : Row). Agree r f g) (sym (line-fields k wide)) ∙ agree-unfixed (line k wide .row) f g
 
 -- ---- values that fit a line's row
-pub record Kept (e : Entry) (f : Fields) : Type 0 where
-  pub in-range : inRange (e .make f) ≡ true
-  pub entry : entryOf (e .make f) ≡ e
-  pub fields : Agree (e .row) (fieldsFrom (e .make f)) f
+record Kept (e : Entry) (f : Fields) : Type 0 where
+  in-range : inRange (e .make f) ≡ true
+  entry : entryOf (e .make f) ≡ e
+  fields : Agree (e .row) (fieldsFrom (e .make f)) f
 
-predicated-kept : (wide : Bool) (f : Fields) → Fit (predicated wide .row) f → Kept (predicated wide) f
-predicated-kept wide f t =
-    let (b, h) = predicated-fit f wide t in
-    let bit₀ = bit-one (f u0) (omega arith) in
-    let bit₁ = bit-one (f u1) (omega arith) in
-    let bit₂ = bit-one (f S) (omega arith) in
+kept : (k : Family) (wide : Bool) (f : Fields) → Fit (line k wide .row) f → Kept (line k wide) f
+kept predicates wide f t =
+    let p = rw (← fit-is predicates wide f) at t in
+    let b = bits-one f (omega arith) in
     record {
-      in-range = all-every (ranges (predicated wide .make f)) (omega (arith, lt-ltb));
+      in-range = all-every (ranges (predicated wide .make f)) (omega (arith, lt-ltb, tile-bits wide));
       entry = refl;
-      fields = agree-predicated (fieldsFrom (predicated wide .make f)) f wide (omega arith);
+      fields = rw (← agree-is predicates wide (fieldsFrom (predicated wide .make f)) f) (omega arith);
+    }
+kept quarters wide f t =
+    let p = rw (← fit-is quarters wide f) at t in
+    let b = bits-one f (omega arith) in
+    let n = bit-one (f N) (omega arith) in
+    let m = bit-one (f M) (omega arith) in
+    record {
+      in-range =
+          simp source-register
+          (all-every
+          (ltb (f ZAda) (cond wide 8 4) ∷ eqb (2 * f Zn % 2) 0 ∷ leb (2 * f Zn) 14
+          ∷ eqb ((16 + 2 * f Zm) % 2) 0 ∷ leb 16 (16 + 2 * f Zm) ∷ leb (16 + 2 * f Zm) 30 ∷ [])
+          (omega (arith, lt-ltb, le-leb, eq-eqb, tile-bits wide)));
+      entry = refl;
+      fields =
+          rw (← agree-is quarters wide (fieldsFrom (quarter wide .make f)) f)
+          (simp (source-register, source-pair) (omega arith));
     }
 
-quarter-kept : (wide : Bool) (f : Fields) → Fit (quarter wide .row) f → Kept (quarter wide) f
-quarter-kept wide f t =
-    let (b, h) = quarter-fit f wide t in
-    let bit₀ = bit-one (f u0) (omega arith) in
-    let bit₁ = bit-one (f u1) (omega arith) in
-    let bit₂ = bit-one (f S) (omega arith) in
-    let bit₃ = bit-one (f N) (omega arith) in
-    let bit₄ = bit-one (f M) (omega arith) in
-    record {
-      in-range = simp source-register (all-every (ltb (f ZAda) (tilesOf wide) ∷ eqb (2 * f Zn % 2) 0 ∷ leb (2 * f Zn) 14 ∷ eqb ((16 + 2 * f Zm) % 2) 0 ∷ leb 16 (16 + 2 * f Zm) ∷ leb (16 + 2 * f Zm) 30 ∷ []) (omega (arith, lt-ltb, le-leb, eq-eqb)));
-      entry = refl;
-      fields = agree-quarter (fieldsFrom (quarter wide .make f)) f wide (simp (source-register, source-pair) (omega arith));
-    }
+zero-kept : (f : Fields) → Fit (zeroing .row) f → Kept zeroing f
+zero-kept f t = record { in-range = all-every (ltb (f mask) 256 ∷ []) (omega (arith, lt-ltb)); entry = refl; fields = (refl, tt) }
 
-pub line-kept : {e : Entry} → List·Memᴰ e table → (f : Fields) → Fit (e .row) f → Kept e f
-line-kept (List·Memᴰ·head p) f t = rw p (predicated-kept false f (rw p at t))
-line-kept (List·Memᴰ·tail (List·Memᴰ·head p)) f t = rw p (predicated-kept true f (rw p at t))
-line-kept (List·Memᴰ·tail (List·Memᴰ·tail (List·Memᴰ·head p))) f t = rw p (quarter-kept false f (rw p at t))
-line-kept (List·Memᴰ·tail (List·Memᴰ·tail (List·Memᴰ·tail (List·Memᴰ·head p)))) f t = rw p (quarter-kept true f (rw p at t))
-line-kept (List·Memᴰ·tail (List·Memᴰ·tail (List·Memᴰ·tail (List·Memᴰ·tail (List·Memᴰ·head p))))) f t =
-    rw p (record { in-range = all-every (ltb (f mask) 256 ∷ []) (omega (arith, lt-ltb, (rw p at t))); entry = refl; fields = (refl, tt) })
+-- what holds of each line in turn holds of every line
+abbrev Each : (Entry → Type 0) → List Entry → Type 0
+Each P [] = Unit {0}
+Each P (e ∷ es) = P e × Each P es
+
+each-line : (P : Entry → Type 0) (es : List Entry) {e : Entry} → Each P es → List·Memᴰ e es → P e
+each-line P (x ∷ es) t (List·Memᴰ·head p) = rw p (t .0)
+each-line P (x ∷ es) t (List·Memᴰ·tail m) = each-line P es (t .1) m
+
+line-kept : {e : Entry} → List·Memᴰ e table → (f : Fields) → Fit (e .row) f → Kept e f
+line-kept =
+    each-line (λ e. (f : Fields) → Fit (e .row) f → Kept e f) table
+    (kept predicates false, (kept predicates true, (kept quarters false, (kept quarters true, (zero-kept, tt)))))
 
 -- ---- a description in range
 pub in-table : (i : Instruction) → List·Memᴰ (entryOf i) table
-in-table (Predicated op tile pn pm zn zm) = go (op .wide)
-  where
-    go : (wide : Bool) → List·Memᴰ (predicated wide) table
-    go false = List·Memᴰ·head refl
-    go true = List·Memᴰ·tail (List·Memᴰ·head refl)
-in-table (Quarter op tile first second) = go (op .wide)
-  where
-    go : (wide : Bool) → List·Memᴰ (quarter wide) table
-    go false = List·Memᴰ·tail (List·Memᴰ·tail (List·Memᴰ·head refl))
-    go true = List·Memᴰ·tail (List·Memᴰ·tail (List·Memᴰ·tail (List·Memᴰ·head refl)))
+in-table (Predicated op tile pn pm zn zm) = line-in predicates (op .wide)
+in-table (Quarter op tile first second) = line-in quarters (op .wide)
 in-table (Zero m) = List·Memᴰ·tail (List·Memᴰ·tail (List·Memᴰ·tail (List·Memᴰ·tail (List·Memᴰ·head refl))))
 
-pub range-fit : (i : Instruction) → inRange i ≡ true → Fit (entryOf i .row) (fieldsFrom i)
-range-fit (Predicated op tile pn pm zn zm) h =
-    let i = Predicated op tile pn pm zn zm in
-    let p = every-all (ranges i) h in
-    fit-predicated (fieldsFrom i) (op .wide) (omega (arith, ltb-true, tiles-le (op .wide), bits-lt op)) (ltb-true _ _ (p .0))
-range-fit (Quarter op tile first second) h =
-    let i = Quarter op tile first second in
-    let p = every-all (ranges i) h in
-    fit-quarter (fieldsFrom i) (op .wide) (omega (arith, ltb-true, leb-true, tiles-le (op .wide), bits-lt op, bit-lt (isPair first), bit-lt (isPair second))) (ltb-true _ _ (p .0))
-range-fit (Zero m) h = let p = every-all (ranges (Zero m)) h in omega (arith, ltb-true)
-
--- the same at either width
+-- at either width it fits its family's widest row
 pub predicated-range : (op : Operation) (tile : Tile) (pn pm : Predicate) (zn zm : Vector) → inRange (Predicated op tile pn pm zn zm) ≡ true
     → Fit predicated64 (fieldsFrom (Predicated op tile pn pm zn zm))
 predicated-range op tile pn pm zn zm h =
-    let i = Predicated op tile pn pm zn zm in
-    predicated-fit (fieldsFrom i) (op .wide) (range-fit i h) .0
+    let p = every-all (ranges (Predicated op tile pn pm zn zm)) h in
+    omega (arith, ltb-true, element-between op, bits-lt op)
 
 pub quarter-range : (op : Operation) (tile : Tile) (first second : Source) → inRange (Quarter op tile first second) ≡ true
     → Fit quarter64 (fieldsFrom (Quarter op tile first second)) × (register first ≤ 14) × (16 ≤ register second) × (register second ≤ 30)
 quarter-range op tile first second h =
+    let p = every-all (ranges (Quarter op tile first second)) h in
+    omega (arith, ltb-true, leb-true, element-between op, bits-lt op, bit-lt (isPair first), bit-lt (isPair second))
+
+-- and its own
+pub range-fit : (i : Instruction) → inRange i ≡ true → Fit (entryOf i .row) (fieldsFrom i)
+range-fit (Predicated op tile pn pm zn zm) h =
+    let i = Predicated op tile pn pm zn zm in
+    let p = every-all (ranges i) h in
+    let t = predicated-range op tile pn pm zn zm h in
+    rw (← fit-is predicates (op .wide) (fieldsFrom i)) (omega (arith, ltb-true, tile-bits (op .wide)))
+range-fit (Quarter op tile first second) h =
     let i = Quarter op tile first second in
     let p = every-all (ranges i) h in
-    (quarter-fit (fieldsFrom i) (op .wide) (range-fit i h) .0, omega (arith, leb-true), omega (arith, leb-true), omega (arith, leb-true))
+    let t = quarter-range op tile first second h in
+    rw (← fit-is quarters (op .wide) (fieldsFrom i)) (omega (arith, ltb-true, tile-bits (op .wide)))
+range-fit (Zero m) h = let p = every-all (ranges (Zero m)) h in omega (arith, ltb-true)
 
 -- a line makes the same description of fields that agree
-predicated-make : (wide : Bool) (f g : Fields) → Agree predicated64 f g → predicatedFrom wide f ≡ predicatedFrom wide g
-predicated-make wide f g a = cc
+make-agree : (k : Family) (wide : Bool) (f g : Fields) → Agree (line k wide .row) f g → line k wide .make f ≡ line k wide .make g
+make-agree predicates wide f g a = let p = rw (← agree-is predicates wide f g) at a in cc
+make-agree quarters wide f g a = let p = rw (← agree-is quarters wide f g) at a in cc
 
-quarter-make : (wide : Bool) (f g : Fields) → Agree quarter64 f g → quarterFrom wide f ≡ quarterFrom wide g
-quarter-make wide f g a = cc
-
-pub make-back : (i : Instruction) (f : Fields) → inRange i ≡ true → Agree (entryOf i .row) f (fieldsFrom i) → entryOf i .make f ≡ i
+make-back : (i : Instruction) (f : Fields) → inRange i ≡ true → Agree (entryOf i .row) f (fieldsFrom i) → entryOf i .make f ≡ i
 make-back (Predicated op tile pn pm zn zm) f h a =
-    let g = fieldsFrom (Predicated op tile pn pm zn zm) in
-    predicated-make (op .wide) f g (predicated-agree f g (op .wide) a) ∙ rw (one-bit (op .u0), one-bit (op .u1), one-bit (op .subtract))
+    make-agree predicates (op .wide) f (fieldsFrom (Predicated op tile pn pm zn zm)) a
+    ∙ rw (one-bit (op .u0), one-bit (op .u1), one-bit (op .subtract))
 make-back (Quarter op tile first second) f h a =
-    let g = fieldsFrom (Quarter op tile first second) in
-    let p = every-all (ranges (Quarter op tile first second)) h in
-    quarter-make (op .wide) f g (quarter-agree f g (op .wide) a)
+    let i = Quarter op tile first second in
+    let p = every-all (ranges i) h in
+    make-agree quarters (op .wide) f (fieldsFrom i) a
     ∙ rw (
       one-bit (op .u0),
       one-bit (op .u1),

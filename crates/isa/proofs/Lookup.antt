@@ -20,20 +20,20 @@ abbrev apartness : List Entry → List Bool
 apartness [] = []
 apartness (e ∷ es) = every (checked (λ x. apart (e .row) (x .row)) es) ∷ apartness es
 
-abbrev Apart : List Entry → Type 0
-Apart es = All (apartness es)
+abbrev RowsApart : List Entry → Type 0
+RowsApart es = All (apartness es)
 
-table-apart : Apart table
+table-apart : RowsApart table
 table-apart = every-all (apartness table) refl
 
 -- a word of the first line matches none of the others
-others : (e x : Entry) (es : List Entry) (w : ℕ) → Apart (e ∷ es) → List·Memᴰ x es → matches (e .row) w ≡ true → matches (x .row) w ≡ false
+others : (e x : Entry) (es : List Entry) (w : ℕ) → RowsApart (e ∷ es) → List·Memᴰ x es → matches (e .row) w ≡ true → matches (x .row) w ≡ false
 others e x es w a m h =
     let test : Entry → Bool = λ y. apart (e .row) (y .row) in
     apart-none (e .row) (x .row) w (at-line test es (every-all (checked test es) (a .0)) m) h
 
 -- a line that the word matches is the one that is found
-found : (es : List Entry) (e : Entry) (w : ℕ) → Apart es → List·Memᴰ e es → matches (e .row) w ≡ true → lookup es w ≡ some e
+found : (es : List Entry) (e : Entry) (w : ℕ) → RowsApart es → List·Memᴰ e es → matches (e .row) w ≡ true → lookup es w ≡ some e
 found (x ∷ es) e w a (List·Memᴰ·head p) h = rw (← p, h)
 found (x ∷ es) e w a (List·Memᴰ·tail m) h = go (matches (x .row) w) refl (found es e w (a .1) m h)
   where
@@ -63,7 +63,7 @@ no-lines : (es : List Entry) (w : ℕ) → ((x : Entry) → List·Memᴰ x es �
 no-lines [] w h = omega arith
 no-lines (e ∷ es) w h = rw (h e (List·Memᴰ·head refl)) (no-lines es w (λ x m. h x (List·Memᴰ·tail m)))
 
-one-of : (es : List Entry) (w : ℕ) → Apart es → length (linesOf es w) ≤ 1
+one-of : (es : List Entry) (w : ℕ) → RowsApart es → length (linesOf es w) ≤ 1
 one-of [] w a = omega arith
 one-of (e ∷ es) w a = go (matches (e .row) w) refl (one-of es w (a .1))
   where

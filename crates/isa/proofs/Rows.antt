@@ -6,7 +6,7 @@ use mathlib.Core.Logic.{_⊎_, inl, inr, ⊎-elim}
 use mathlib.Core.List.{List, [], _∷_}
 use mathlib.Core.Option.{Option, none, some}
 use Prim.Native.Nat.{ℕ, zero, suc, _+_, _-_, _*_, _/_, _%_, _^_, _<_}
-use native.Mathlib.Nat.{mod-mod, mod-one, div-one, mod-lt, mod-eq-of-lt}
+use native.Mathlib.Nat.{mod-mod, mod-one, mod-lt, mod-eq-of-lt}
 use native.Mathlib.Omega.{arith}
 use lib.Dec.{eqb, ltb, leb}
 use borrow.Author.Tests.{eq-eqb, eqb-true, eqb-false, ltb-true, leb-true, not-true}
@@ -73,16 +73,28 @@ agree-except m x r f g d = go r (every-all (fresh m r) d)
     go (fixed k v ∷ r) d a = go r d a
     go (field n k ∷ r) d a = (rw (not-true (same m n) (d .0)) (a .0), go r (d .1) (a .1))
 
+-- fixed bits ask nothing of values
+abbrev pub unfixed : Row → Row
+unfixed [] = []
+unfixed (fixed k v ∷ r) = unfixed r
+unfixed (field n k ∷ r) = field n k ∷ unfixed r
+
+pub fit-unfixed : (r : Row) (f : Fields) → Fit (unfixed r) f ≡ Fit r f
+fit-unfixed [] f = refl
+fit-unfixed (fixed k v ∷ r) f = fit-unfixed r f
+fit-unfixed (field n k ∷ r) f = ap (λ (T : Type 0). (f n < 2 ^ k) × T) (fit-unfixed r f)
+
+pub agree-unfixed : (r : Row) (f g : Fields) → Agree (unfixed r) f g ≡ Agree r f g
+agree-unfixed [] f g = refl
+agree-unfixed (fixed k v ∷ r) f g = agree-unfixed r f g
+agree-unfixed (field n k ∷ r) f g = ap (λ (T : Type 0). (f n ≡ g n) × T) (agree-unfixed r f g)
+
 same-refl : (n : Name) → same n n ≡ true
 same-refl n = eq-eqb (index n) (index n) refl
 
 -- ---- what stands above a row's bits does not count
-bits-is : (s k w : ℕ) → bits s k w ≡ w / 2 ^ s % 2 ^ k
-bits-is zero k w = ap (λ (n : ℕ). n % 2 ^ k) (sym (div-one w))
-bits-is (suc s) k w = refl
-
 bits-mod : (s k w : ℕ) → bits s k (w % 2 ^ (k + s)) ≡ bits s k w
-bits-mod s k w = rw (bits-is s k (w % 2 ^ (k + s)), bits-is s k w, field-either-way w k s, mod-mod)
+bits-mod s k w = rw (field-either-way w k s, mod-mod)
 
 -- a reading of words by a row that looks at the row's bits alone; a segment above them changes nothing
 module _ {A : Type 0} (r : Row) (read : ℕ → A) (low-bits : (w : ℕ) → read (w % 2 ^ size r) ≡ read w) where
@@ -117,7 +129,7 @@ word-lt (field n k ∷ r) f s t = rw (pow-add 2 k (size r)) (digits-lt (t .0) (w
 
 -- the top segment of a word
 top : (h s k : ℕ) {lo : ℕ} → h < 2 ^ k → lo < 2 ^ s → bits s k (h * 2 ^ s + lo) ≡ h
-top h s k p q = rw (bits-is, high h s q) (mod-eq-of-lt p)
+top h s k p q = rw (high h s q) (mod-eq-of-lt p)
 
 pub fields-back : (r : Row) (f : Fields) → Sound r → Fit r f → Agree r (fieldOf r (wordOf r f)) f
 fields-back [] f s t = tt
@@ -146,15 +158,15 @@ pub fields-fit : (r : Row) (w : ℕ) → Sound r → Fit r (fieldOf r w)
 fields-fit [] w s = tt
 fields-fit (fixed k v ∷ r) w s = fields-fit r w (s .1)
 fields-fit (field m k ∷ r) w s = (
-  rw (same-refl m, bits-is (size r) k w) (mod-lt (w / 2 ^ size r) (pow-pos k)),
+  rw (same-refl m) (mod-lt (w / 2 ^ size r) (pow-pos k)),
   agree-fit r (fieldOf (field m k ∷ r) w) (fieldOf r w) (fields-rest m k r w (s .0)) (fields-fit r w (s .1)),
 )
 
 word-back : (r : Row) (w : ℕ) → Sound r → All (tests r w) → wordOf r (fieldOf r w) ≡ w % 2 ^ size r
 word-back [] w s t = sym (mod-one w)
-word-back (fixed k v ∷ r) w s t = rw (mod-pow-add w k (size r), ← bits-is, eqb-true _ v (t .0), word-back r w (s .1) (t .1))
+word-back (fixed k v ∷ r) w s t = rw (mod-pow-add w k (size r), eqb-true _ v (t .0), word-back r w (s .1) (t .1))
 word-back (field m k ∷ r) w s t =
-    rw (same-refl m, mod-pow-add w k (size r), ← bits-is)
+    rw (same-refl m, mod-pow-add w k (size r))
     (ap (λ (n : ℕ). bits (size r) k w * 2 ^ size r + n)
     (agree-word r (fieldOf (field m k ∷ r) w) (fieldOf r w) (fields-rest m k r w (s .0)) ∙ word-back r w (s .1) t))
 
@@ -205,7 +217,7 @@ pattern-bit s k v w b e h =
     let i : b ≡ s + (b - s) = omega arith in
     let j : b - s < k = omega arith in
     ap (λ (n : ℕ). w / 2 ^ n % 2) i ∙ ap (λ (n : ℕ). n % 2) (sym (shr-shr w s (b - s)))
-    ∙ sym (low-bit (w / 2 ^ s) k (b - s) j) ∙ ap (λ (n : ℕ). n / 2 ^ (b - s) % 2) (sym (bits-is s k w) ∙ e)
+    ∙ sym (low-bit (w / 2 ^ s) k (b - s) j) ∙ ap (λ (n : ℕ). n / 2 ^ (b - s) % 2) e
 
 fixed-bit : (r : Row) (w b x : ℕ) → All (tests r w) → fixedBit r b ≡ some x → w / 2 ^ b % 2 ≡ x
 fixed-bit [] w b x t e = let z : _≡_ {A = ℕ} 0 1 = cc in absurd (omega arith)

@@ -1,14 +1,14 @@
 -- Demand 2 for words and descriptions: the claims of specs/Claims.antt hold for every input. Assumes nothing.
 use mathlib.Core.Path.{_≡_, _∙_, sym, ap, refl, subst}
-use mathlib.Core.Bool.{Bool, true, false}
+use mathlib.Core.Bool.{Bool, true, false, cond}
 use mathlib.Core.Option.{Option, none, some}
 use Prim.Native.Nat.{ℕ, _≤_, _<_, _^_}
 use native.Mathlib.Omega.{arith}
 use lib.Dec.{eqb, ltb}
 use borrow.Author.Tests.{eq-eqb, ne-eqb, eqb-true, eqb-false, ltb-true, ltb-false}
 use Rattle.isa.specs.Table.{Entry, table, allFlags, lacking, described, entryOf, inRange, wordFor}
-use Rattle.isa.specs.Answers.{lookup, describedBy, neededBy, describe, missing, decodeOf, decodedNumber, decodeNumber, encodeOf, encodedNumber}
-use Rattle.isa.specs.Claims.{Listed, FeaturesOn, Decodes, Encodes, Describes, OneLine}
+use Rattle.isa.specs.Answers.{lookup, describedBy, neededBy, describe, missing, decodeOf, decodedNumber, decodeNumber, encodedNumber, encodedWord, encodeNumber}
+use Rattle.isa.specs.Claims.{Listed, FeaturesOn, Decodes, OnlyWord, Encodes, Describes, OneLine}
 use Rattle.isa.specs.declared.Instruction.{Instruction}
 use Rattle.isa.specs.declared.Refusal.the-variants.{Unlisted, FeatureOff}
 use Rattle.isa.specs.declared.Decoded.the-variants.{Accepted, Refused as NotDecoded}
@@ -42,7 +42,8 @@ lacking-features flags w e p z x m q =
     lacking-none flags (x .needs) (rw (sym s) z)
 
 -- ---- the answer in each case
-accepted-when : (flags w : ℕ) → flags ≤ allFlags → Listed w → FeaturesOn flags w → (i : Instruction) × (decodeOf flags w ≡ Accepted i) × (describe w ≡ some i)
+accepted-when : (flags w : ℕ) → flags ≤ allFlags → Listed w → FeaturesOn flags w
+    → (i : Instruction) × (decodeOf flags w ≡ Accepted i) × (describe w ≡ some i)
 unfolding listed-found
 accepted-when flags w h l f =
     let (e, p) = listed-found w l in
@@ -151,24 +152,28 @@ described-is w i h p = go (lookup table w) refl p
         let s : described e w ≡ i = cc in
         (rw s at (o .in-range), rw s at (o .word))
 
-out-of-range : (i : Instruction) (b : Bool) → inRange i ≡ b → encodedNumber (encodeOf i) ≡ 11 → inRange i ≡ false
-out-of-range i true h p = let q = ap encodedNumber (encode-in-range i h) in absurd (omega arith)
-out-of-range i false h p = h
+-- encode's number tells whether a description is in range
+range-number : (i : Instruction) (b : Bool) → inRange i ≡ b → encodeNumber i ≡ cond b 0 11
+range-number i true h = ap encodedNumber (encode-in-range i h)
+range-number i false h = ap encodedNumber (encode-out-of-range i h)
+
+number-range : (i : Instruction) (b : Bool) → encodeNumber i ≡ cond b 0 11 → inRange i ≡ b
+number-range i b p = go (inRange i) b (sym (range-number i (inRange i) refl) ∙ p)
+  where
+    go : (a b : Bool) → _≡_ {A = ℕ} (cond a 0 11) (cond b 0 11) → a ≡ b
+    go true true q = refl
+    go true false q = absurd (omega arith)
+    go false true q = absurd (omega arith)
+    go false false q = refl
+
+only-word : (i : Instruction) → inRange i ≡ true → OnlyWord i (wordFor i)
+only-word i h = record { fits = word-described i h .fits; is = describe-word i h; only = λ v l p. sym (described-is v i l p .1) }
 
 -- a description in range has one word, which encode gives and decode takes back
 pub encodes : (i : Instruction) → Encodes i
 encodes i =
     record {
-      word =
-          λ h. (
-            wordFor i,
-            encode-in-range i h,
-            record {
-              fits = word-described i h .fits;
-              is = describe-word i h;
-              only = λ v l p. sym (described-is v i l p .1);
-            },
-          );
+      word = λ h. (wordFor i, encode-in-range i h, only-word i h);
       back =
           λ flags w p h f.
           let (r, e) = encoded i w p in
@@ -176,7 +181,9 @@ encodes i =
           rw e
           (decode-listed flags (wordFor i) (entryOf i) h (lookup-found (wordFor i) (in-table i) (l .hit))
           ∙ rw (eq-eqb _ 0 (on-lacking flags (entryOf i .needs) f), l .back));
-      gives-11 = (out-of-range i (inRange i) refl, λ h. ap encodedNumber (encode-out-of-range i h));
+      only-word = λ p. let h = number-range i true p in subst (OnlyWord i) (sym (ap encodedWord (encode-in-range i h))) (only-word i h);
+      accepts = (number-range i true, range-number i true);
+      gives-11 = (number-range i false, range-number i false);
     }
 
 -- a listed word is the word of one description, which is in range

@@ -87,3 +87,9 @@ encodedNumber (NotEncoded r) = number r
 abbrev pub encodedWord : Encoded → ℕ
 encodedWord (Word w) = w
 encodedWord (NotEncoded r) = 0
+
+abbrev pub encodeNumber : Instruction → ℕ
+encodeNumber i = encodedNumber (encodeOf i)
+
+abbrev pub encodeWord : Instruction → ℕ
+encodeWord i = encodedWord (encodeOf i)

@@ -8,7 +8,7 @@ use Prim.Native.Nat.{ℕ, _≤_, _<_, _^_}
 use lib.ListN.{length}
 use Rattle.isa.specs.Row.{matches}
 use Rattle.isa.specs.Table.{Feature, Entry, table, allFlags, on, entryOf, inRange}
-use Rattle.isa.specs.Answers.{describe, missing, decodeOf, decodeNumber, encodeOf, encodedNumber}
+use Rattle.isa.specs.Answers.{describe, missing, decodeOf, decodeNumber, encodeOf, encodeNumber, encodeWord}
 use Rattle.isa.specs.declared.Instruction.{Instruction}
 use Rattle.isa.specs.declared.Decoded.the-variants.{Accepted}
 use Rattle.isa.specs.declared.Encoded.the-variants.{Word}
@@ -44,7 +44,9 @@ pub record OnlyWord (i : Instruction) (w : ℕ) : Type 0 where
 pub record Encodes (i : Instruction) : Type 0 where
   pub word : inRange i ≡ true → (w : ℕ) × (encodeOf i ≡ Word w) × OnlyWord i w
   pub back : (flags w : ℕ) → encodeOf i ≡ Word w → flags ≤ allFlags → AllOn flags (entryOf i .needs) → decodeOf flags w ≡ Accepted i
-  pub gives-11 : (encodedNumber (encodeOf i) ≡ 11) ↔ (inRange i ≡ false)
+  pub only-word : encodeNumber i ≡ 0 → OnlyWord i (encodeWord i)
+  pub accepts : (encodeNumber i ≡ 0) ↔ (inRange i ≡ true)
+  pub gives-11 : (encodeNumber i ≡ 11) ↔ (inRange i ≡ false)
 
 -- a listed word is the word of one description, which is in range
 pub record Describes (w : ℕ) (i : Instruction) : Type 0 where

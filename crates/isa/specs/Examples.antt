@@ -1,15 +1,24 @@
--- Words and what they are, as rows of one table: the papers' examples of decode, and words of an independent
--- disassembler that tell every two fields of a row apart. proofs/Examples.antt shows that each comes out as it says.
-use mathlib.Core.Bool.{Bool, true, false}
+-- Words and what they are, and what the table allows, as rows of tables; proofs/Examples.antt shows that each comes out
+-- as it says. The paper's marked examples are in crates/bench/specs/Examples.antt. Here are words of an independent
+-- disassembler: three for each row of the table that has two fields or more, in which every two of its fields differ
+-- somewhere, both signs stand alone and mixed, and both values of S, N and M occur; each with the least flags that allow it.
+use mathlib.Core.Bool.{Bool, true, false, cond}
 use mathlib.Core.List.{List, [], _∷_}
 use mathlib.Core.Option.{Option, none, some}
-use Prim.Native.Nat.{ℕ}
+use Prim.Native.Nat.{ℕ, zero, suc, _+_, _-_, _^_}
+use lib.Dec.{eqb}
+use Rattle.isa.specs.Row.{fixed, field, Row}
+use Rattle.isa.specs.Table.{allFlags, lacking, Entry}
+use Rattle.isa.specs.Answers.{decodeOf, decodedNumber}
 use Rattle.isa.specs.declared.Operation.{Operation}
 use Rattle.isa.specs.declared.Source.{Source}
 use Rattle.isa.specs.declared.Source.the-variants.{One, Pair}
 use Rattle.isa.specs.declared.Instruction.{Instruction}
 use Rattle.isa.specs.declared.Instruction.the-variants.{Predicated, Quarter, Zero}
+use Rattle.isa.specs.declared.Decoded.{Decoded}
+use Rattle.isa.specs.declared.Decoded.the-variants.{Accepted, Refused}
 
+-- ---- words
 -- the number that decode gives with these flags (0: accepted), and the instruction
 pub record Example : Type 0 where
   pub flags : ℕ
@@ -17,28 +26,35 @@ pub record Example : Type 0 where
   pub number : ℕ
   pub is : Option Instruction
 
--- the operations that the examples have, by the letters of their mnemonics
-abbrev pub sm-a : Bool → Operation
-sm-a wide = record { wide = wide; u0 = false; u1 = false; subtract = false }
+-- operations by the letters of their mnemonics, as `umop s adds` for UMOPA or UMOP4A on a 32-bit tile
+abbrev pub s : Bool
+s = false
 
-abbrev pub su-a : Bool → Operation
-su-a wide = record { wide = wide; u0 = false; u1 = true; subtract = false }
+abbrev pub d : Bool
+d = true
 
-abbrev pub su-s : Bool → Operation
-su-s wide = record { wide = wide; u0 = false; u1 = true; subtract = true }
+abbrev pub adds : Bool
+adds = false
 
-abbrev pub us-a : Bool → Operation
-us-a wide = record { wide = wide; u0 = true; u1 = false; subtract = false }
+abbrev pub subtracts : Bool
+subtracts = true
 
-abbrev pub us-s : Bool → Operation
-us-s wide = record { wide = wide; u0 = true; u1 = false; subtract = true }
+abbrev pub smop : Bool → Bool → Operation
+smop wide subtract = record { wide = wide; u0 = false; u1 = false; subtract = subtract }
 
-abbrev pub predicated-of : Operation → ℕ → ℕ → ℕ → ℕ → ℕ → Option Instruction
-predicated-of op tile pn pm zn zm =
+abbrev pub sumop : Bool → Bool → Operation
+sumop wide subtract = record { wide = wide; u0 = false; u1 = true; subtract = subtract }
+
+abbrev pub umop : Bool → Bool → Operation
+umop wide subtract = record { wide = wide; u0 = true; u1 = true; subtract = subtract }
+
+-- an instruction by its operands, in the order of its text
+abbrev pub aPredicated : Operation → ℕ → ℕ → ℕ → ℕ → ℕ → Option Instruction
+aPredicated op tile pn pm zn zm =
     some (Predicated op (record { 0 = tile }) (record { 0 = pn }) (record { 0 = pm }) (record { 0 = zn }) (record { 0 = zm }))
 
-abbrev pub quarter-of : Operation → ℕ → Source → Source → Option Instruction
-quarter-of op tile first second = some (Quarter op (record { 0 = tile }) first second)
+abbrev pub aQuarter : Operation → ℕ → Source → Source → Option Instruction
+aQuarter op tile first second = some (Quarter op (record { 0 = tile }) first second)
 
 abbrev pub z : ℕ → Source
 z n = One (record { 0 = n })
@@ -48,30 +64,51 @@ zz n = Pair (record { 0 = n })
 
 abbrev pub examples : List Example
 examples =
-    record { flags = 7; word = 0xA0A00010; number = 0; is = predicated-of (su-s false) 0 0 0 0 0 }
-    ∷ record { flags = 7; word = 0xA0B1A873; number = 0; is = predicated-of (su-s false) 3 2 5 3 17 }
-    ∷ record { flags = 7; word = 0x811E8352; number = 0; is = quarter-of (us-s false) 2 (zz 10) (zz 30) }
-    ∷ record { flags = 7; word = 0x81000010; number = 7; is = none }
-    ∷ record { flags = 7; word = 0x81008010; number = 0; is = quarter-of (us-s false) 0 (z 0) (z 16) }
-    ∷ record { flags = 7; word = 0xA0E00018; number = 0; is = quarter-of (su-s true) 0 (z 0) (z 16) }
-    ∷ record { flags = 7; word = 0xA0E10018; number = 7; is = none }
-    ∷ record { flags = 7; word = 0xA0E00038; number = 7; is = none }
-    ∷ record { flags = 4; word = 0xA1C0001F; number = 8; is = none }
-    ∷ record { flags = 6; word = 0xA1C0001F; number = 0; is = quarter-of (us-s true) 7 (z 0) (z 16) }
-    ∷ record { flags = 7; word = 0xC0080100; number = 7; is = none }
-    ∷ record { flags = 7; word = 0xC00800FF; number = 0; is = some (Zero 255) }
-    -- I16I64 does not ask for SME, and flags above 7 hide even a listed word
-    ∷ record { flags = 2; word = 0xA0C00000; number = 0; is = predicated-of (sm-a true) 0 0 0 0 0 }
-    ∷ record { flags = 8; word = 0xA0A00010; number = 1; is = none }
-    -- from the disassembler
-    ∷ record { flags = 7; word = 0xA0A5B0C1; number = 0; is = predicated-of (su-a false) 1 4 5 6 5 }
-    ∷ record { flags = 7; word = 0xA1CC7CC0; number = 0; is = predicated-of (us-a true) 0 7 3 6 12 }
-    ∷ record { flags = 7; word = 0xA0F04044; number = 0; is = predicated-of (su-a true) 4 0 2 2 16 }
-    ∷ record { flags = 7; word = 0x80188102; number = 0; is = quarter-of (sm-a false) 2 (z 8) (zz 24) }
-    ∷ record { flags = 7; word = 0x810E8182; number = 0; is = quarter-of (us-a false) 2 (z 12) (z 30) }
-    ∷ record { flags = 7; word = 0xA0F2019C; number = 0; is = quarter-of (su-s true) 4 (z 12) (zz 18) }
+    -- smops za3.s, p5/m, p4/m, z13.b, z7.b
+    record { flags = 1; word = 0xA08795B3; number = 0; is = aPredicated (smop s subtracts) 3 5 4 13 7 }
+    -- umopa za2.s, p7/m, p3/m, z24.b, z19.b
+    ∷ record { flags = 1; word = 0xA1B37F02; number = 0; is = aPredicated (umop s adds) 2 7 3 24 19 }
+    -- sumopa za3.s, p5/m, p6/m, z28.b, z25.b
+    ∷ record { flags = 1; word = 0xA0B9D783; number = 0; is = aPredicated (sumop s adds) 3 5 6 28 25 }
+    -- smops za2.d, p6/m, p3/m, z24.h, z22.h
+    ∷ record { flags = 2; word = 0xA0D67B12; number = 0; is = aPredicated (smop d subtracts) 2 6 3 24 22 }
+    -- umopa za7.d, p4/m, p6/m, z23.h, z26.h
+    ∷ record { flags = 2; word = 0xA1FAD2E7; number = 0; is = aPredicated (umop d adds) 7 4 6 23 26 }
+    -- sumopa za3.d, p7/m, p4/m, z14.h, z11.h
+    ∷ record { flags = 2; word = 0xA0EB9DC3; number = 0; is = aPredicated (sumop d adds) 3 7 4 14 11 }
+    -- smop4s za3.s, { z12.b-z13.b }, z30.b
+    ∷ record { flags = 4; word = 0x800E8393; number = 0; is = aQuarter (smop s subtracts) 3 (zz 12) (z 30) }
+    -- umop4a za3.s, { z14.b-z15.b }, z26.b
+    ∷ record { flags = 4; word = 0x812A83C3; number = 0; is = aQuarter (umop s adds) 3 (zz 14) (z 26) }
+    -- sumop4s za2.s, z12.b, { z26.b-z27.b }
+    ∷ record { flags = 4; word = 0x803A8192; number = 0; is = aQuarter (sumop s subtracts) 2 (z 12) (zz 26) }
+    -- smop4s za4.d, { z4.h-z5.h }, { z30.h-z31.h }
+    ∷ record { flags = 6; word = 0xA0DE029C; number = 0; is = aQuarter (smop d subtracts) 4 (zz 4) (zz 30) }
+    -- umop4s za7.d, z8.h, z22.h
+    ∷ record { flags = 6; word = 0xA1E6011F; number = 0; is = aQuarter (umop d subtracts) 7 (z 8) (z 22) }
+    -- sumop4a za6.d, { z6.h-z7.h }, z20.h
+    ∷ record { flags = 6; word = 0xA0E402CE; number = 0; is = aQuarter (sumop d adds) 6 (zz 6) (z 20) }
+    -- zero { za0.d, za1.d, za2.d, za5.d, za7.d }
+    ∷ record { flags = 1; word = 0xC00800A7; number = 0; is = some (Zero 0b10100111) }
+    -- flags above 7 hide even a listed word
+    ∷ record { flags = 8; word = 0xA0B9D783; number = 1; is = none }
     ∷ []
 
+abbrev pub accepted : Decoded → Option Instruction
+accepted (Accepted i) = some i
+accepted (Refused r) = none
+
+-- an example with what decode answers in place of what it should
+abbrev pub replayed : Example → Example
+replayed e =
+    let answer = decodeOf (e .flags) (e .word) in
+    record { flags = e .flags; word = e .word; number = decodedNumber answer; is = accepted answer }
+
+abbrev pub allReplayed : List Example → List Example
+allReplayed [] = []
+allReplayed (e ∷ es) = replayed e ∷ allReplayed es
+
+-- ---- features
 -- the flags, of 0 to 7, with which each line of the table is accepted
 abbrev pub acceptingFlags : List (List ℕ)
 acceptingFlags =
@@ -81,3 +118,22 @@ acceptingFlags =
     ∷ (6 ∷ 7 ∷ [])
     ∷ (1 ∷ 3 ∷ 5 ∷ 7 ∷ [])
     ∷ []
+
+-- the last k of the flags 0 to 7, of these those with which a line lacks nothing
+abbrev pub accepting : ℕ → Entry → List ℕ
+accepting zero e = []
+accepting (suc k) e = let flags = allFlags - k in cond (eqb (lacking flags (e .needs)) 0) (flags ∷ accepting k e) (accepting k e)
+
+abbrev pub allAccepting : List Entry → List (List ℕ)
+allAccepting [] = []
+allAccepting (e ∷ es) = accepting 8 e ∷ allAccepting es
+
+-- ---- how many words the widths of the fields allow; the program `sweep` counts the words themselves
+abbrev pub freeBits : Row → ℕ
+freeBits [] = 0
+freeBits (fixed k v ∷ r) = freeBits r
+freeBits (field n k ∷ r) = k + freeBits r
+
+abbrev pub wordsOf : List Entry → ℕ
+wordsOf [] = 0
+wordsOf (e ∷ es) = 2 ^ freeBits (e .row) + wordsOf es

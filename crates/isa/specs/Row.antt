@@ -1,16 +1,13 @@
 -- Rows of an encoding table: segments from bit 31 down, each a fixed pattern or a named field.
 use mathlib.Core.Bool.{Bool, true, cond, _&&_}
 use mathlib.Core.List.{List, [], _∷_}
-use Prim.Native.Nat.{ℕ, zero, suc, _+_, _*_, _/_, _%_, _^_}
+use Prim.Native.Nat.{ℕ, _+_, _*_, _/_, _%_, _^_}
 use lib.Dec.{eqb}
 
--- every test of a list holds; joined from the left, as the code's `a & b & c` is, so that the two compute alike
-abbrev pub everyFrom : Bool → List Bool → Bool
-everyFrom b [] = b
-everyFrom b (t ∷ ts) = everyFrom (b && t) ts
-
+-- every test of a list holds
 abbrev pub every : List Bool → Bool
-every ts = everyFrom true ts
+every [] = true
+every (t ∷ ts) = t && every ts
 
 -- the names of the fields, as Arm's pages have them
 pub data Name : Type 0 where
@@ -50,10 +47,9 @@ size [] = 0
 size (fixed k v ∷ r) = k + size r
 size (field n k ∷ r) = k + size r
 
--- the k bits of w that stand above its lowest s; where s is 0, without a division by 1, as in code
+-- the k bits of w that stand above its lowest s
 abbrev pub bits : ℕ → ℕ → ℕ → ℕ
-bits zero k w = w % 2 ^ k
-bits (suc s) k w = w / 2 ^ suc s % 2 ^ k
+bits s k w = w / 2 ^ s % 2 ^ k
 
 -- the word that a row and its fields make
 abbrev pub wordOf : Row → Fields → ℕ

@@ -14,19 +14,27 @@ use Rattle.isa.specs.declared.Instruction.the-variants.{Predicated, Quar
 
 -- 1010000 u0 10 u1 Zm(5) Pm(3) Pn(3) Zn(5) S 00 ZAda(2)
 abbrev pub predicated32 : Row
-predicated32 = fixed 7 0b1010000 ∷ field u0 1 ∷ fixed 2 0b10 ∷ field u1 1 ∷ field Zm 5 ∷ field Pm 3 ∷ field Pn 3 ∷ field Zn 5 ∷ field S 1 ∷ fixed 2 0b00 ∷ field ZAda 2 ∷ []
+predicated32 =
+    fixed 7 0b1010000 ∷ field u0 1 ∷ fixed 2 0b10 ∷ field u1 1 ∷ field Zm 5
+    ∷ field Pm 3 ∷ field Pn 3 ∷ field Zn 5 ∷ field S 1 ∷ fixed 2 0b00 ∷ field ZAda 2 ∷ []
 
 -- 1010000 u0 11 u1 Zm(5) Pm(3) Pn(3) Zn(5) S 0 ZAda(3)
 abbrev pub predicated64 : Row
-predicated64 = fixed 7 0b1010000 ∷ field u0 1 ∷ fixed 2 0b11 ∷ field u1 1 ∷ field Zm 5 ∷ field Pm 3 ∷ field Pn 3 ∷ field Zn 5 ∷ field S 1 ∷ fixed 1 0b0 ∷ field ZAda 3 ∷ []
+predicated64 =
+    fixed 7 0b1010000 ∷ field u0 1 ∷ fixed 2 0b11 ∷ field u1 1 ∷ field Zm 5
+    ∷ field Pm 3 ∷ field Pn 3 ∷ field Zn 5 ∷ field S 1 ∷ fixed 1 0b0 ∷ field ZAda 3 ∷ []
 
 -- 1000000 u0 00 u1 M Zm(3) 0 100000 N Zn(3) 0 S 00 ZAda(2)
 abbrev pub quarter32 : Row
-quarter32 = fixed 7 0b1000000 ∷ field u0 1 ∷ fixed 2 0b00 ∷ field u1 1 ∷ field M 1 ∷ field Zm 3 ∷ fixed 1 0b0 ∷ fixed 6 0b100000 ∷ field N 1 ∷ field Zn 3 ∷ fixed 1 0b0 ∷ field S 1 ∷ fixed 2 0b00 ∷ field ZAda 2 ∷ []
+quarter32 =
+    fixed 7 0b1000000 ∷ field u0 1 ∷ fixed 2 0b00 ∷ field u1 1 ∷ field M 1 ∷ field Zm 3 ∷ fixed 1 0b0
+    ∷ fixed 6 0b100000 ∷ field N 1 ∷ field Zn 3 ∷ fixed 1 0b0 ∷ field S 1 ∷ fixed 2 0b00 ∷ field ZAda 2 ∷ []
 
 -- 1010000 u0 11 u1 M Zm(3) 0 000000 N Zn(3) 0 S 1 ZAda(3)
 abbrev pub quarter64 : Row
-quarter64 = fixed 7 0b1010000 ∷ field u0 1 ∷ fixed 2 0b11 ∷ field u1 1 ∷ field M 1 ∷ field Zm 3 ∷ fixed 1 0b0 ∷ fixed 6 0b000000 ∷ field N 1 ∷ field Zn 3 ∷ fixed 1 0b0 ∷ field S 1 ∷ fixed 1 0b1 ∷ field ZAda 3 ∷ []
+quarter64 =
+    fixed 7 0b1010000 ∷ field u0 1 ∷ fixed 2 0b11 ∷ field u1 1 ∷ field M 1 ∷ field Zm 3 ∷ fixed 1 0b0
+    ∷ fixed 6 0b000000 ∷ field N 1 ∷ field Zn 3 ∷ fixed 1 0b0 ∷ field S 1 ∷ fixed 1 0b1 ∷ field ZAda 3 ∷ []
 
 -- 110000000000100000000000 mask(8)
 abbrev pub zero8 : Row
@@ -57,23 +65,23 @@ lacking flags (f ∷ fs) = cond (on flags f) 0 (flag f) + lacking flags fs
 abbrev pub one? : ℕ → Bool
 one? v = eqb v 1
 
-abbrev pub operationFrom : Bool → Fields → Operation
-operationFrom wide f = record { wide = wide; u0 = one? (f u0); u1 = one? (f u1); subtract = one? (f S) }
+abbrev pub operationOfFields : Bool → Fields → Operation
+operationOfFields wide f = record { wide = wide; u0 = one? (f u0); u1 = one? (f u1); subtract = one? (f S) }
 
 abbrev pub source : Bool → ℕ → Source
 source pair n = cond pair (Pair (record { 0 = n })) (One (record { 0 = n }))
 
-abbrev pub predicatedFrom : Bool → Fields → Instruction
-predicatedFrom wide f =
-    Predicated (operationFrom wide f) (record { 0 = f ZAda }) (record { 0 = f Pn }) (record { 0 = f Pm }) (record { 0 = f Zn }) (record { 0 = f Zm })
+abbrev pub predicatedOfFields : Bool → Fields → Instruction
+predicatedOfFields wide f =
+    Predicated (operationOfFields wide f) (record { 0 = f ZAda }) (record { 0 = f Pn }) (record { 0 = f Pm }) (record { 0 = f Zn }) (record { 0 = f Zm })
 
 -- the first source starts at register 2·Zn, the second at 16 + 2·Zm
-abbrev pub quarterFrom : Bool → Fields → Instruction
-quarterFrom wide f =
-    Quarter (operationFrom wide f) (record { 0 = f ZAda }) (source (one? (f N)) (2 * f Zn)) (source (one? (f M)) (16 + 2 * f Zm))
+abbrev pub quarterOfFields : Bool → Fields → Instruction
+quarterOfFields wide f =
+    Quarter (operationOfFields wide f) (record { 0 = f ZAda }) (source (one? (f N)) (2 * f Zn)) (source (one? (f M)) (16 + 2 * f Zm))
 
-abbrev pub zeroFrom : Fields → Instruction
-zeroFrom f = Zero (f mask)
+abbrev pub zeroOfFields : Fields → Instruction
+zeroOfFields f = Zero (f mask)
 
 -- ---- the table
 pub record Entry : Type 0 where
@@ -82,13 +90,13 @@ pub record Entry : Type 0 where
   pub make : Fields → Instruction
 
 abbrev pub predicated : Bool → Entry
-predicated wide = record { row = cond wide predicated64 predicated32; needs = cond wide (I16I64 ∷ []) (SME ∷ []); make = predicatedFrom wide }
+predicated wide = record { row = cond wide predicated64 predicated32; needs = cond wide (I16I64 ∷ []) (SME ∷ []); make = predicatedOfFields wide }
 
 abbrev pub quarter : Bool → Entry
-quarter wide = record { row = cond wide quarter64 quarter32; needs = cond wide (MOP4 ∷ I16I64 ∷ []) (MOP4 ∷ []); make = quarterFrom wide }
+quarter wide = record { row = cond wide quarter64 quarter32; needs = cond wide (MOP4 ∷ I16I64 ∷ []) (MOP4 ∷ []); make = quarterOfFields wide }
 
 abbrev pub zeroing : Entry
-zeroing = record { row = zero8; needs = SME ∷ []; make = zeroFrom }
+zeroing = record { row = zero8; needs = SME ∷ []; make = zeroOfFields }
 
 abbrev pub table : List Entry
 table = predicated false ∷ predicated true ∷ quarter false ∷ quarter true ∷ zeroing ∷ []
@@ -135,15 +143,25 @@ fieldsFrom (Zero m) = assign ((mask, m) ∷ [])
 abbrev pub wordFor : Instruction → ℕ
 wordFor i = wordOf (entryOf i .row) (fieldsFrom i)
 
--- how many tiles there are of a width
-abbrev pub tilesOf : Bool → ℕ
-tilesOf wide = cond wide 8 4
+-- bytes of an operation's tile elements, how many products come to each, and bytes of its source elements
+abbrev pub elementBytes : Operation → ℕ
+elementBytes op = cond (op .wide) 8 4
+
+abbrev pub productsOf : Operation → ℕ
+productsOf op = 4
+
+abbrev pub sourceBytes : Operation → ℕ
+sourceBytes op = elementBytes op / productsOf op
+
+-- how many tiles there are with elements of E bytes: as many as an element has bytes
+abbrev pub tilesOf : ℕ → ℕ
+tilesOf E = E
 
 abbrev pub ranges : Instruction → List Bool
 ranges (Predicated op tile pn pm zn zm) =
-    ltb (tile .0) (tilesOf (op .wide)) ∷ ltb (pn .0) 8 ∷ ltb (pm .0) 8 ∷ ltb (zn .0) 32 ∷ ltb (zm .0) 32 ∷ []
+    ltb (tile .0) (tilesOf (elementBytes op)) ∷ ltb (pn .0) 8 ∷ ltb (pm .0) 8 ∷ ltb (zn .0) 32 ∷ ltb (zm .0) 32 ∷ []
 ranges (Quarter op tile first second) =
-    ltb (tile .0) (tilesOf (op .wide))
+    ltb (tile .0) (tilesOf (elementBytes op))
     ∷ eqb (register first % 2) 0 ∷ leb (register first) 14
     ∷ eqb (register second % 2) 0 ∷ leb 16 (register second) ∷ leb (register second) 30 ∷ []
 ranges (Zero m) = ltb m 256 ∷ []

@@ -1,11 +1,11 @@
 // What a word means: the rows of the table in turn, each by its fixed bits.
 ghost use mathlib.Core.Path.{_≡_};
-ghost use mathlib.Core.Bool.{cond};
-ghost use lib.Dec.{eqb};
+ghost use mathlib.Core.Bool.{not, cond};
+ghost use lib.Dec.{eqb, ltb};
 ghost use Prim.Native.Nat.{_/_, _%_, _<_, _≤_};
 ghost use Rattle.isa.specs.Row.{matches, fieldOf};
-ghost use Rattle.isa.specs.Table.{predicated32, predicated64, quarter32, quarter64, zero8, predicated, quarter, described, operationFrom, source, tilesOf};
-ghost use Rattle.isa.specs.Answers.{decodeOf, allowed};
+ghost use Rattle.isa.specs.Table.{predicated32, predicated64, quarter32, quarter64, zero8, allFlags, predicated, quarter, described, operationOfFields, source, elementBytes, tilesOf};
+ghost use Rattle.isa.specs.Answers.{decodedNumber, decodeNumber, decodeOf, allowed};
 use crate::Decoded;
 use crate::Instruction;
 use crate::Operation;
@@ -14,6 +14,7 @@ use crate::Refusal;
 use crate::Source;
 use crate::Tile;
 use crate::Vector;
+use crate::sizes::element_bytes;
 
 // The features' flags.
 const SME: u32 = 1;
@@ -22,26 +23,37 @@ const I16I64: u32 = 2;
 
 const MOP4: u32 = 4;
 
+// Every feature on; a larger number is no sum of features.
+const ALL_FLAGS: u32 = 7;
+
+// Whether flags are a sum of features.
+pub fn flags_legal(flags: u32) -> bool
+    ensures { λ r. ⌜ r ≡ not (ltb allFlags flags) ⌝ }
+{
+    flags <= ALL_FLAGS
+}
+
 // The instruction that a word is, or why it is none: illegal flags, an unlisted word, a missing feature.
 pub fn decode(flags: u32, word: u32) -> Decoded
     ensures { λ r. ⌜ r ≡ decodeOf flags word ⌝ }
+    ensures { λ r. ⌜ decodedNumber r ≡ decodeNumber flags word ⌝ }
 {
-    if 7 < flags {
+    if !flags_legal(flags) {
         return Decoded::Refused(Refusal::Flags);
     }
     if is_predicated32(word) {
-        return accept(lacked(flags, SME), predicated_of(word, false));
+        return accept(lacked(flags, SME), decode_predicated(word, false));
     }
     if is_predicated64(word) {
-        return accept(lacked(flags, I16I64), predicated_of(word, true));
+        return accept(lacked(flags, I16I64), decode_predicated(word, true));
     }
     if is_quarter32(word) {
-        return accept(lacked(flags, MOP4), quarter_of(word, false));
+        return accept(lacked(flags, MOP4), decode_quarter(word, false));
     }
     if is_quarter64(word) {
         return accept(
             lacked(flags, MOP4) + lacked(flags, I16I64),
-            quarter_of(word, true),
+            decode_quarter(word, true),
         );
     }
     if is_zero(word) {
@@ -114,12 +126,13 @@ fn is_zero(w: u32) -> bool
 
 // The description made from a word's fields.
 
-fn predicated_of(w: u32, wide: bool) -> Instruction
+fn decode_predicated(w: u32, wide: bool) -> Instruction
     ensures { λ r. ⌜ r ≡ described (predicated wide) w ⌝ }
 {
+    let op = operation_of(w, wide);
     Instruction::Predicated {
-        op: operation_of(w, wide),
-        tile: tile_of(w, wide),
+        op,
+        tile: tile_of(w, op),
         pn: Predicate((w >> 10) % 8),
         pm: Predicate((w >> 13) % 8),
         zn: Vector((w >> 5) % 32),
@@ -127,12 +140,13 @@ fn predicated_of(w: u32, wide: bool) -> Instruction
     }
 }
 
-fn quarter_of(w: u32, wide: bool) -> Instruction
+fn decode_quarter(w: u32, wide: bool) -> Instruction
     ensures { λ r. ⌜ r ≡ described (quarter wide) w ⌝ }
 {
+    let op = operation_of(w, wide);
     Instruction::Quarter {
-        op: operation_of(w, wide),
-        tile: tile_of(w, wide),
+        op,
+        tile: tile_of(w, op),
         first: source_of((w >> 9) % 2 == 1, 2 * ((w >> 6) % 8)),
         second: source_of((w >> 20) % 2 == 1, 16 + 2 * ((w >> 17) % 8)),
     }
@@ -140,7 +154,7 @@ fn quarter_of(w: u32, wide: bool) -> Instruction
 
 // u0, u1 and S stand at the same bits in every outer product.
 fn operation_of(w: u32, wide: bool) -> Operation
-    ensures { λ r. ⌜ r ≡ operationFrom wide (fieldOf predicated32 w) ⌝ }
+    ensures { λ r. ⌜ r ≡ operationOfFields wide (fieldOf predicated32 w) ⌝ }
 {
     Operation {
         wide,
@@ -150,10 +164,11 @@ fn operation_of(w: u32, wide: bool) -> Operation
     }
 }
 
-fn tile_of(w: u32, wide: bool) -> Tile
-    ensures { λ r. ⌜ r ≡ record { 0 = w % tilesOf wide } ⌝ }
+// ZAda stands at the lowest bits, as many as tell the tiles apart.
+fn tile_of(w: u32, op: Operation) -> Tile
+    ensures { λ r. ⌜ r ≡ record { 0 = w % tilesOf (elementBytes op) } ⌝ }
 {
-    if wide { Tile(w % 8) } else { Tile(w % 4) }
+    Tile(w % element_bytes(op))
 }
 
 // A source by its kind and its first register.

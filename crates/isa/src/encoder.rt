@@ -2,8 +2,8 @@
 ghost use mathlib.Core.Path.{_≡_};
 ghost use mathlib.Core.Bool.{true};
 ghost use Prim.Native.Nat.{_+_, _-_, _*_, _/_, _<_, _≤_};
-ghost use Rattle.isa.specs.Table.{bit, tilesOf, isPair, register, inRange, wordFor};
-ghost use Rattle.isa.specs.Answers.{encodeOf};
+ghost use Rattle.isa.specs.Table.{bit, isPair, register, inRange, wordFor};
+ghost use Rattle.isa.specs.Answers.{encodeOf, encodedNumber, encodedWord, encodeNumber, encodeWord};
 use crate::Encoded;
 use crate::Instruction;
 use crate::Operation;
@@ -12,10 +12,47 @@ use crate::Refusal;
 use crate::Source;
 use crate::Tile;
 use crate::Vector;
+use crate::sizes::element_bytes;
+
+// The fixed bits of each row of the table: its word where every field is 0.
+const PREDICATED32: u32 = 0xa080_0000;
+
+const PREDICATED64: u32 = 0xa0c0_0000;
+
+const QUARTER32: u32 = 0x8000_8000;
+
+const QUARTER64: u32 = 0xa0c0_0008;
+
+const ZERO: u32 = 0xc008_0000;
+
+// The place of each field: what 1 in it adds to the word. Zn and Zm stand elsewhere in a quarter's row.
+const AT_U0: u32 = 0x0100_0000;
+
+const AT_U1: u32 = 0x0020_0000;
+
+const AT_S: u32 = 0x10;
+
+const AT_PREDICATED_ZM: u32 = 0x0001_0000;
+
+const AT_PM: u32 = 0x2000;
+
+const AT_PN: u32 = 0x400;
+
+const AT_PREDICATED_ZN: u32 = 0x20;
+
+const AT_M: u32 = 0x0010_0000;
+
+const AT_QUARTER_ZM: u32 = 0x0002_0000;
+
+const AT_N: u32 = 0x200;
+
+const AT_QUARTER_ZN: u32 = 0x40;
 
 // The one word of a description that is in range; any other is refused.
 pub fn encode(i: Instruction) -> Encoded
     ensures { λ r. ⌜ r ≡ encodeOf i ⌝ }
+    ensures { λ r. ⌜ encodedNumber r ≡ encodeNumber i ⌝ }
+    ensures { λ r. ⌜ encodedWord r ≡ encodeWord i ⌝ }
 {
     match i {
         Instruction::Predicated {
@@ -32,7 +69,7 @@ pub fn encode(i: Instruction) -> Encoded
             first,
             second,
         } => encode_quarter(op, tile, first, second),
-        Instruction::Zero(mask) => Encoded::Word(0xc008_0000 + mask as u32),
+        Instruction::Zero(mask) => Encoded::Word(ZERO + mask as u32),
     }
 }
 
@@ -77,9 +114,9 @@ fn predicated_word(
     let fields = operation_bits(op, tile) + predicated_bits(pn, pm, zn, zm);
     let wide = op.wide;
     if wide {
-        0xa0c0_0000 + fields
+        PREDICATED64 + fields
     } else {
-        0xa080_0000 + fields
+        PREDICATED32 + fields
     }
 }
 
@@ -90,9 +127,9 @@ fn quarter_word(op: Operation, tile: Tile, first: Source, second: Source) -> u32
     let fields = operation_bits(op, tile) + quarter_bits(first, second);
     let wide = op.wide;
     if wide {
-        0xa0c0_0008 + fields
+        QUARTER64 + fields
     } else {
-        0x8000_8000 + fields
+        QUARTER32 + fields
     }
 }
 
@@ -100,27 +137,24 @@ fn operation_bits(op: Operation, tile: Tile) -> u32
     requires { ⌜ tile .0 < 8 ⌝ }
     ensures { λ r. ⌜ r ≡ bit (op .u0) * 0x1000000 + bit (op .u1) * 0x200000 + bit (op .subtract) * 0x10 + tile .0 ⌝ }
 {
-    (op.u0 as u32) * 0x0100_0000
-        + (op.u1 as u32) * 0x0020_0000
-        + (op.subtract as u32) * 0x10
-        + tile.0
+    (op.u0 as u32) * AT_U0 + (op.u1 as u32) * AT_U1 + (op.subtract as u32) * AT_S + tile.0
 }
 
 fn predicated_bits(pn: Predicate, pm: Predicate, zn: Vector, zm: Vector) -> u32
     requires { ⌜ (pn .0 < 8) × (pm .0 < 8) × (zn .0 < 32) × (zm .0 < 32) ⌝ }
     ensures { λ r. ⌜ r ≡ zm .0 * 0x10000 + pm .0 * 0x2000 + pn .0 * 0x400 + zn .0 * 0x20 ⌝ }
 {
-    zm.0 * 0x0001_0000 + pm.0 * 0x2000 + pn.0 * 0x400 + zn.0 * 0x20
+    zm.0 * AT_PREDICATED_ZM + pm.0 * AT_PM + pn.0 * AT_PN + zn.0 * AT_PREDICATED_ZN
 }
 
 fn quarter_bits(first: Source, second: Source) -> u32
     requires { ⌜ (register first < 16) × (16 ≤ register second) × (register second < 32) ⌝ }
     ensures { λ r. ⌜ r ≡ bit (isPair second) * 0x100000 + (register second - 16) / 2 * 0x20000 + bit (isPair first) * 0x200 + register first / 2 * 0x40 ⌝ }
 {
-    (is_pair(second) as u32) * 0x0010_0000
-        + (register_of(second) - 16) / 2 * 0x0002_0000
-        + (is_pair(first) as u32) * 0x200
-        + register_of(first) / 2 * 0x40
+    (is_pair(second) as u32) * AT_M
+        + (register_of(second) - 16) / 2 * AT_QUARTER_ZM
+        + (is_pair(first) as u32) * AT_N
+        + register_of(first) / 2 * AT_QUARTER_ZN
 }
 
 // Which descriptions are in range.
@@ -135,7 +169,7 @@ fn predicated_in_range(
 ) -> bool
     ensures { λ r. ⌜ r ≡ inRange (Instruction.Predicated op tile pn pm zn zm) ⌝ }
 {
-    (tile.0 < tiles(op.wide)) & (pn.0 < 8) & (pm.0 < 8) & (zn.0 < 32) & (zm.0 < 32)
+    (tile.0 < element_bytes(op)) & (pn.0 < 8) & (pm.0 < 8) & (zn.0 < 32) & (zm.0 < 32)
 }
 
 fn quarter_in_range(op: Operation, tile: Tile, first: Source, second: Source) -> bool
@@ -143,13 +177,7 @@ fn quarter_in_range(op: Operation, tile: Tile, first: Source, second: Source) ->
 {
     let n = register_of(first);
     let m = register_of(second);
-    (tile.0 < tiles(op.wide)) & (n % 2 == 0) & (n <= 14) & (m % 2 == 0) & (16 <= m) & (m <= 30)
-}
-
-fn tiles(wide: bool) -> u32
-    ensures { λ r. ⌜ r ≡ tilesOf wide ⌝ }
-{
-    if wide { 8 } else { 4 }
+    (tile.0 < element_bytes(op)) & (n % 2 == 0) & (n <= 14) & (m % 2 == 0) & (16 <= m) & (m <= 30)
 }
 
 fn is_pair(s: Source) -> bool

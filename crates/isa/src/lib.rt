@@ -2,11 +2,16 @@
 mod decoder;
 mod encoder;
 mod numbers;
+mod sizes;
 
 pub use decoder::decode;
+pub use decoder::flags_legal;
 pub use decoder::source_of;
 pub use encoder::encode;
 pub use numbers::number;
+pub use sizes::element_bytes;
+pub use sizes::products;
+pub use sizes::source_bytes;
 
 // Numbers of tiles, vectors and predicates: kinds that can't stand for one another.
 pub struct Tile(pub u32);

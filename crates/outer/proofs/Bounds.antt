@@ -48,7 +48,9 @@ within-add a b c d (negsuc m) (negsuc n) h k = omega arith
 
 within-sum : (low high : ℕ) (f : ℕ → ℤ) → ((k : ℕ) → Within low high (f k)) → (n : ℕ) → Within (n * low) (n * high) (sum f n)
 within-sum low high f h zero = zero-le
-within-sum low high f h (suc n) = rw (suc-mul n low, suc-mul n high) (within-add (n * low) (n * high) low high (sum f n) (f n) (within-sum low high f h n) (h n))
+within-sum low high f h (suc n) =
+    rw (suc-mul n low, suc-mul n high)
+    (within-add (n * low) (n * high) low high (sum f n) (f n) (within-sum low high f h n) (h n))
 
 within-neg : (low high n : ℕ) → n ≤ low → Within low high (negℤ (pos n))
 within-neg low high zero h = zero-le
@@ -82,28 +84,41 @@ low-high : (B : ℕ) → 0 < B → lowest B ≤ highest B
 low-high zero s = absurd (not-suc-le-zero s)
 low-high (suc B) s = omega arith
 
-module _ (E K : ℕ) (s : 0 < E / K) (o : OuterProduct) (z p : List ℕ) (row col : ℕ) (bytes : (i : ℕ) → at z i < 256) where
-  within-source : (u : Bool) (register e : ℕ) → Within (lowest (E / K)) (highest (E / K)) (interpret (E / K) u (sourceElement (E / K) (o .vb) z register e))
-  within-source u register e = within-element (E / K) s u _ (word-lt (E / K) (register * o .vb + e * (E / K)) (at z) bytes)
+module _ (E K vb : ℕ) (s : 0 < E / K) (o : OuterProduct) (z p : List ℕ) (row col : ℕ) (bytes : (i : ℕ) → at z i < 256) where
+  abbrev pub least : ℕ
+  least = lowest (E / K)
 
-  within-product : (k : ℕ) → Within (lowest (E / K) * highest (E / K)) (highest (E / K) * highest (E / K)) (product E K o z p row col k)
+  abbrev pub most : ℕ
+  most = highest (E / K)
+
+  within-source : (u : Bool) (register e : ℕ) → Within least most (interpret (E / K) u (sourceElement (E / K) vb z register e))
+  within-source u register e = within-element (E / K) s u _ (word-lt (E / K) (register * vb + e * (E / K)) (at z) bytes)
+
+  within-product : (k : ℕ) → Within (least * most) (most * most) (product E K vb o z p row col k)
   unfolding product
-  within-product k = go (counts E K o z p row col k)
+  within-product k = go (counts E K vb o z p row col k)
     where
-      go : (t : Bool) → Within (lowest (E / K) * highest (E / K)) (highest (E / K) * highest (E / K)) (cond t (firstElement E K o z p row col k *ℤ secondElement E K o z p row col k) (pos 0))
+      x : ℤ
+      x = firstElement E K vb o z p row col k
+
+      y : ℤ
+      y = secondElement E K vb o z p row col k
+
+      go : (t : Bool) → Within (least * most) (most * most) (cond t (x *ℤ y) (pos 0))
       go true =
-          within-mul (lowest (E / K)) (highest (E / K)) (low-high (E / K) s) (firstElement E K o z p row col k) (secondElement E K o z p row col k)
-          (within-source (o .first .unsigned) (registerAt (o .first) (o .vb / E) col) (K * row + k))
-          (within-source (o .second .unsigned) (registerAt (o .second) (o .vb / E) row) (K * col + k))
+          within-mul least most (low-high (E / K) s) x y
+          (within-source (o .first .unsigned) (registerAt (o .first) (vb / E) col) (K * row + k))
+          (within-source (o .second .unsigned) (registerAt (o .second) (vb / E) row) (K * col + k))
       go false = zero-le
 
   -- K products of elements of E / K bytes
-  pub products-between : Between (negℤ (pos (K * (lowest (E / K) * highest (E / K))))) (pos (K * (highest (E / K) * highest (E / K)))) (sum (product E K o z p row col) K)
-  products-between = within-between _ _ _ (within-sum _ _ (product E K o z p row col) within-product K)
+  pub products-between : Between (negℤ (pos (K * (least * most)))) (pos (K * (most * most))) (sum (product E K vb o z p row col) K)
+  products-between = within-between _ _ _ (within-sum _ _ (product E K vb o z p row col) within-product K)
 
 -- the paper's figures: 4 products of bytes, and of halfwords
-pub four-products-32 : (o : OuterProduct) (z p : List ℕ) (row col : ℕ) → ((i : ℕ) → at z i < 256) → Between (negℤ (pos 130560)) (pos 260100) (sum (product 4 4 o z p row col) 4)
-four-products-32 = products-between 4 4 (lit< tt)
+module _ (vb : ℕ) (o : OuterProduct) (z p : List ℕ) (row col : ℕ) (bytes : (i : ℕ) → at z i < 256) where
+  pub four-products-32 : Between (negℤ (pos 130560)) (pos 260100) (sum (product 4 4 vb o z p row col) 4)
+  four-products-32 = products-between 4 4 vb (lit< tt) o z p row col bytes
 
-pub four-products-64 : (o : OuterProduct) (z p : List ℕ) (row col : ℕ) → ((i : ℕ) → at z i < 256) → Between (negℤ (pos 8589803520)) (pos 17179344900) (sum (product 8 4 o z p row col) 4)
-four-products-64 = products-between 8 4 (lit< tt)
+  pub four-products-64 : Between (negℤ (pos 8589803520)) (pos 17179344900) (sum (product 8 4 vb o z p row col) 4)
+  four-products-64 = products-between 8 4 vb (lit< tt) o z p row col bytes

@@ -17,13 +17,20 @@ directed-not false x = refl
 
 -- the same product, taken the other way
 abbrev pub otherWay : OuterProduct → OuterProduct
-otherWay o = record { vb = o .vb; tile = o .tile; first = o .first; second = o .second; subtract = not (o .subtract) }
+otherWay o = record {
+  element = o .element;
+  products = o .products;
+  tile = o .tile;
+  first = o .first;
+  second = o .second;
+  subtract = not (o .subtract);
+}
 
-module _ (E K : ℕ) (o : OuterProduct) (z p : List ℕ) (row col : ℕ) where
-  one-negated : (k : ℕ) → directedProduct E K (otherWay o) z p row col k ≡ negℤ (directedProduct E K o z p row col k)
+module _ (E K vb : ℕ) (o : OuterProduct) (z p : List ℕ) (row col : ℕ) where
+  one-negated : (k : ℕ) → directedProduct E K vb (otherWay o) z p row col k ≡ negℤ (directedProduct E K vb o z p row col k)
   unfolding product
-  one-negated k = directed-not (o .subtract) (product E K o z p row col k)
+  one-negated k = directed-not (o .subtract) (product E K vb o z p row col k)
 
-  pub dot-negated : dot E K (otherWay o) z p row col ≡ negℤ (dot E K o z p row col)
+  pub dot-negated : dot E K vb (otherWay o) z p row col ≡ negℤ (dot E K vb o z p row col)
   unfolding dot
-  dot-negated = sum-negated (directedProduct E K o z p row col) (directedProduct E K (otherWay o) z p row col) one-negated K
+  dot-negated = sum-negated (directedProduct E K vb o z p row col) (directedProduct E K vb (otherWay o) z p row col) one-negated K

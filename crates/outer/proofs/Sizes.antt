@@ -8,9 +8,9 @@ use Rattle.storage.specs.Sizes.{legal}
 use Rattle.storage.proofs.Sizes.{legal-length}
 
 -- byte e of row r, of count rows of vb bytes, in one list
-pub record Place (count vb r e : ℕ) : Type 0 where
+pub record BytePlace (count vb r e : ℕ) : Type 0 where
   pub inside : r * vb + e < count * vb
   pub small : count * vb ≤ count * 256
 
-pub place : {count vb r e : ℕ} → legal vb ≡ true → r < count → e < vb → Place count vb r e
-place {count} {vb} l h k = record { inside = digits-lt h k; small = mul-le-mul-left count (legal-length vb l .most) }
+pub byte-place : {count vb r e : ℕ} → legal vb ≡ true → r < count → e < vb → BytePlace count vb r e
+byte-place {count} {vb} l h k = record { inside = digits-lt h k; small = mul-le-mul-left count (legal-length vb l .most) }

@@ -9,6 +9,8 @@ use lib.IntN.{ℤ, pos, negsuc, negℤ, _+ℤ_, _*ℤ_}
 use lib.ListN.{length}
 use Rattle.storage.specs.Sizes.{legal, zSize, pSize}
 use Rattle.storage.specs.Bytes.{at, word, bitAt}
+use Rattle.outer.specs.declared.Predication.{Predication}
+use Rattle.outer.specs.declared.Predication.the-variants.{Unpredicated, By}
 use Rattle.outer.specs.declared.Operand.{Operand}
 use Rattle.outer.specs.declared.OuterProduct.{OuterProduct}
 
@@ -18,26 +20,27 @@ interpret B unsigned n = cond unsigned (pos n) (cond (ltb n (256 ^ B / 2)) (pos 
 
 -- the register that an operand has for the i-th of n rows or columns: by the half that i is in
 abbrev pub registerAt : Operand → ℕ → ℕ → ℕ
-registerAt o n i = cond (ltb i (n / 2)) (o .low) (o .high)
+registerAt o n i = cond (ltb i (n / 2)) (o .low .0) (o .high .0)
 
 -- element e of a register, of B bytes
 abbrev pub sourceElement : ℕ → ℕ → List ℕ → ℕ → ℕ → ℕ
 sourceElement B vb z register e = word B (at z) (register * vb + e * B)
 
 -- element e counts where bit e·B of the governing predicate is set; without a predicate every element does
-abbrev pub active : ℕ → ℕ → List ℕ → Operand → ℕ → Bool
-active B vb p o e = cond (o .governed) (bitAt p (o .predicate * vb + e * B)) true
+abbrev pub active : ℕ → ℕ → List ℕ → Predication → ℕ → Bool
+active B vb p Unpredicated e = true
+active B vb p (By q) e = bitAt p (q .0 * vb + e * B)
 
-module _ (E K : ℕ) (o : OuterProduct) (z p : List ℕ) (row col k : ℕ) where
+module _ (E K vb : ℕ) (o : OuterProduct) (z p : List ℕ) (row col k : ℕ) where
   -- the two elements of product k at (row, col): the first source's register by the column's half, the second's by the row's
   abbrev pub firstElement : ℤ
-  firstElement = interpret (E / K) (o .first .unsigned) (sourceElement (E / K) (o .vb) z (registerAt (o .first) (o .vb / E) col) (K * row + k))
+  firstElement = interpret (E / K) (o .first .unsigned) (sourceElement (E / K) vb z (registerAt (o .first) (vb / E) col) (K * row + k))
 
   abbrev pub secondElement : ℤ
-  secondElement = interpret (E / K) (o .second .unsigned) (sourceElement (E / K) (o .vb) z (registerAt (o .second) (o .vb / E) row) (K * col + k))
+  secondElement = interpret (E / K) (o .second .unsigned) (sourceElement (E / K) vb z (registerAt (o .second) (vb / E) row) (K * col + k))
 
   abbrev pub counts : Bool
-  counts = active (E / K) (o .vb) p (o .first) (K * row + k) && active (E / K) (o .vb) p (o .second) (K * col + k)
+  counts = active (E / K) vb p (o .first .predication) (K * row + k) && active (E / K) vb p (o .second .predication) (K * col + k)
 
   -- product k, 0 where it does not count
   unfoldable pub product : ℤ
@@ -52,23 +55,34 @@ sum f (suc k) = sum f k +ℤ f k
 abbrev pub directed : Bool → ℤ → ℤ
 directed subtract x = cond subtract (negℤ x) x
 
-abbrev pub directedProduct : ℕ → ℕ → OuterProduct → List ℕ → List ℕ → ℕ → ℕ → ℕ → ℤ
-directedProduct E K o z p row col k = directed (o .subtract) (product E K o z p row col k)
+abbrev pub directedProduct : ℕ → ℕ → ℕ → OuterProduct → List ℕ → List ℕ → ℕ → ℕ → ℕ → ℤ
+directedProduct E K vb o z p row col k = directed (o .subtract) (product E K vb o z p row col k)
 
 -- all K products of element (row, col)
-unfoldable pub dot : ℕ → ℕ → OuterProduct → List ℕ → List ℕ → ℕ → ℕ → ℤ
-dot E K o z p row col = sum (directedProduct E K o z p row col) K
+unfoldable pub dot : ℕ → ℕ → ℕ → OuterProduct → List ℕ → List ℕ → ℕ → ℕ → ℤ
+dot E K vb o z p row col = sum (directedProduct E K vb o z p row col) K
 
 -- ---- what a caller has seen to before an update
-pub record GoodOperand (o : Operand) : Type 0 where
-  pub low : o .low < 32
-  pub high : o .high < 32
-  pub predicate : o .predicate < 16
 
-pub record Ready (E : ℕ) (o : OuterProduct) (z p : List ℕ) : Type 0 where
-  pub length-legal : legal (o .vb) ≡ true
-  pub z-size : length z ≡ zSize (o .vb)
-  pub p-size : length p ≡ pSize (o .vb)
-  pub tile : o .tile < E
+-- the shapes that there are: bytes of a tile element, and how many products come to it
+pub data Shaped : ℕ → ℕ → Type 0 where
+  bytes32 : Shaped 4 4
+  halves64 : Shaped 8 4
+
+-- a governing predicate is one of the sixteen
+abbrev pub GoodPredication : Predication → Type 0
+GoodPredication Unpredicated = Unit {0}
+GoodPredication (By q) = q .0 < 16
+
+pub record GoodOperand (o : Operand) : Type 0 where
+  pub low : o .low .0 < 32
+  pub high : o .high .0 < 32
+  pub predication : GoodPredication (o .predication)
+
+pub record Ready (E vb : ℕ) (o : OuterProduct) (z p : List ℕ) : Type 0 where
+  pub length-legal : legal vb ≡ true
+  pub z-size : length z ≡ zSize vb
+  pub p-size : length p ≡ pSize vb
+  pub tile : o .tile .0 < E
   pub first : GoodOperand (o .first)
   pub second : GoodOperand (o .second)

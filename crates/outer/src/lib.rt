@@ -4,23 +4,32 @@ mod product;
 mod walk;
 
 pub use clear::clear_tiles;
-pub use walk::update32;
-pub use walk::update64;
+use isa::Predicate;
+use isa::Tile;
+use isa::Vector;
+pub use walk::update;
 
-// A source: its register for the first and the second half of the tile's columns or rows, the predicate that governs it,
-// if one does, and how its elements are read.
+// Which elements of a source count: all of them, or those that its governing predicate has.
+pub enum Predication {
+    Unpredicated,
+    By(Predicate),
+}
+
+// A source: its register for the first and the second half of the tile's columns or rows, which of its elements count, and
+// how they are read.
 pub struct Operand {
-    pub low: usize,
-    pub high: usize,
-    pub governed: bool,
-    pub predicate: usize,
+    pub low: Vector,
+    pub high: Vector,
+    pub predication: Predication,
     pub unsigned: bool,
 }
 
-// An outer product on a tile: at which vector length, of which sources, added or subtracted.
+// An outer product: the bytes of a tile element and how many products come to it, its tile and sources, and whether it
+// subtracts.
 pub struct OuterProduct {
-    pub vb: usize,
-    pub tile: usize,
+    pub element: usize,
+    pub products: usize,
+    pub tile: Tile,
     pub first: Operand,
     pub second: Operand,
     pub subtract: bool,

@@ -1,19 +1,21 @@
 // One product, added to or taken from a tile element: at both widths.
 ghost use mathlib.Core.Path.{_≡_};
 ghost use mathlib.Core.Bool.{true};
-ghost use Prim.Native.Nat.{_+_, _*_, _/_, _<_};
+ghost use Prim.Native.Nat.{_/_, _<_};
 ghost use lib.IntN.{_*ℤ_};
 ghost use lib.ListN.{length};
 ghost use lib.Signed.{mag};
 ghost use Rattle.storage.specs.Sizes.{legal, pSize};
 ghost use Rattle.storage.specs.Modulo.{plus};
-ghost use Rattle.outer.specs.Products.{interpret, registerAt, active, directed, directedProduct, Ready};
+ghost use Rattle.outer.specs.Products.{interpret, registerAt, active, GoodPredication, directed, directedProduct, Ready};
 use crate::Operand;
 use crate::OuterProduct;
+use crate::Predication;
 
 // Product k of element (row, col) of a 32-bit tile, added to sum.
 pub(crate) fn add_product32(
     sum: u32,
+    vb: usize,
     o: OuterProduct,
     z: &[u8],
     p: &[u8],
@@ -21,11 +23,10 @@ pub(crate) fn add_product32(
     col: usize,
     k: usize,
 ) -> u32
-    requires { ⌜ Ready 4 o (now z) (now p) ⌝ }
-    requires { ⌜ (row < o .vb / 4) × (col < o .vb / 4) × (k < 4) ⌝ }
-    ensures { λ r. ⌜ r ≡ plus 4 sum (directedProduct 4 4 o (now (z .entry)) (now (p .entry)) row col k) ⌝ }
+    requires { ⌜ Ready 4 vb o (now z) (now p) ⌝ }
+    requires { ⌜ (row < vb / 4) × (col < vb / 4) × (k < 4) ⌝ }
+    ensures { λ r. ⌜ r ≡ plus 4 sum (directedProduct 4 4 vb o (now (z .entry)) (now (p .entry)) row col k) ⌝ }
 {
-    let vb = o.vb;
     let first = o.first;
     let second = o.second;
     let e = 4 * row + k;
@@ -46,6 +47,7 @@ pub(crate) fn add_product32(
 // Product k of element (row, col) of a 64-bit tile, added to sum.
 pub(crate) fn add_product64(
     sum: u64,
+    vb: usize,
     o: OuterProduct,
     z: &[u8],
     p: &[u8],
@@ -53,11 +55,10 @@ pub(crate) fn add_product64(
     col: usize,
     k: usize,
 ) -> u64
-    requires { ⌜ Ready 8 o (now z) (now p) ⌝ }
-    requires { ⌜ (row < o .vb / 8) × (col < o .vb / 8) × (k < 4) ⌝ }
-    ensures { λ r. ⌜ r ≡ plus 8 sum (directedProduct 8 4 o (now (z .entry)) (now (p .entry)) row col k) ⌝ }
+    requires { ⌜ Ready 8 vb o (now z) (now p) ⌝ }
+    requires { ⌜ (row < vb / 8) × (col < vb / 8) × (k < 4) ⌝ }
+    ensures { λ r. ⌜ r ≡ plus 8 sum (directedProduct 8 4 vb o (now (z .entry)) (now (p .entry)) row col k) ⌝ }
 {
-    let vb = o.vb;
     let first = o.first;
     let second = o.second;
     let e = 4 * row + k;
@@ -75,22 +76,26 @@ pub(crate) fn add_product64(
     accumulate64(sum, x, y, o.subtract)
 }
 
-// Whether the element that starts at a vector byte is active.
+// Whether an operand's element that starts at a vector byte is active.
 fn is_active(p: &[u8], vb: usize, o: Operand, byte: usize) -> bool
-    requires { ⌜ (legal vb ≡ true) × (length (now p) ≡ pSize vb) × (o .predicate < 16) × (byte < vb) ⌝ }
-    ensures { λ r. ⌜ r ≡ active 1 vb (now (p .entry)) o byte ⌝ }
+    requires { ⌜ (legal vb ≡ true) × (length (now p) ≡ pSize vb) × GoodPredication (o .predication) × (byte < vb) ⌝ }
+    ensures { λ r. ⌜ r ≡ active 1 vb (now (p .entry)) (o .predication) byte ⌝ }
 {
-    let governed = o.governed;
-    if governed {
-        return storage::bit(p, o.predicate * vb + byte);
+    let predication = o.predication;
+    match predication {
+        Predication::Unpredicated => true,
+        Predication::By(q) => storage::bit(p, q.0 as usize * vb + byte),
     }
-    true
 }
 
 fn register_at(o: Operand, n: usize, i: usize) -> usize
     ensures { λ r. ⌜ r ≡ registerAt o n i ⌝ }
 {
-    if i < n / 2 { o.low } else { o.high }
+    if i < n / 2 {
+        o.low.0 as usize
+    } else {
+        o.high.0 as usize
+    }
 }
 
 // Source elements as whole numbers, sign-extended unless they are unsigned.

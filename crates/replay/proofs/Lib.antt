@@ -1,11 +1,12 @@
 pub mod Tests
 pub mod Execution
+pub mod Keeping
 pub mod Ready
-pub mod Exchanged
 pub mod Runs
 pub mod Acts
 pub mod Twins
 pub mod Benches
+pub mod Answers
 pub mod Links
 pub mod Demand3
 pub mod Numbers

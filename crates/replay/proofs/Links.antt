@@ -1,246 +1,255 @@
 -- Words as actions on ZA: an accepted outer product adds to its tile, a refused word is idle, and a word exchanged undoes it.
 -- Assumes nothing.
-use mathlib.Core.Path.{_≡_, refl, sym, ap, ap₂, _∙_, fun-ext}
-use mathlib.Core.Bool.{Bool, true, false, false≢true, _&&_, cond}
-use mathlib.Core.List.{List, [], _∷_, List·Mem}
+use mathlib.Core.Path.{_≡_, refl, sym, ap, ap₂, _∙_, subst, fun-ext}
+use mathlib.Core.Bool.{Bool, true, false, false≢true, not, _&&_, cond}
+use mathlib.Core.List.{List, [], _∷_, foldl, List·Mem}
 use mathlib.Core.Option.{Option, none, some}
 use Prim.Native.Nat.{ℕ, _%_, _^_, _<_}
 use lib.Dec.{eqb}
 use lib.ListN.{length}
 use lib.IntN.{ℤ, pos, _+ℤ_}
 use borrow.Author.Tests.{eqb-true, eq-eqb, ne-eqb, ltb-true}
-use Rattle.isa.specs.Table.{ranges, inRange}
-use Rattle.isa.specs.Answers.{absent, describe, decodeNumber}
+use Rattle.isa.specs.Table.{elementBytes, ranges, inRange}
+use Rattle.isa.specs.Answers.{absent, describe}
 use Rattle.isa.specs.declared.Refusal.{Refusal}
+use Rattle.isa.specs.declared.Operation.{Operation}
 use Rattle.isa.specs.declared.Instruction.{Instruction}
 use Rattle.isa.specs.declared.Instruction.the-variants.{Predicated, Quarter, Zero}
 use Rattle.isa.proofs.Tests.{every-all}
 use Rattle.isa.proofs.Theorems.{described-is}
 use Rattle.storage.specs.Tile.{clear}
-use Rattle.storage.proofs.Laws.{addTo-length}
-use Rattle.storage.proofs.Clearing.{clear-length}
-use Rattle.outer.specs.Products.{dot}
+use Rattle.outer.specs.declared.OuterProduct.{OuterProduct}
 use Rattle.outer.proofs.Negation.{dot-negated}
-use Rattle.replay.specs.declared.Bench.{Bench}
-use Rattle.replay.specs.Operands.{elementBytes, products, predicatedOuter, quarterOuter}
-use Rattle.replay.specs.Execution.{isOuter, refusalOf, effect, unless, zaAfter}
+use Rattle.replay.specs.Machine.{Machine, withZa}
+use Rattle.replay.specs.Operands.{sumOf}
+use Rattle.replay.specs.Instructions.{outerOf, some?, isOuter, maskOf, modesOf, tileOfOuter, isTile, namesTile}
+use Rattle.replay.specs.Execution.{refusalOf, none?, accepted, added, cleared, unless, leftBy, after}
 use Rattle.replay.specs.Lists.{played}
-use Rattle.replay.specs.Exchange.{flipS, exchangeOf}
-use Rattle.replay.specs.Demand3.{reversed, none?, accepted, exchanged, sameWidth, addsTo, brings, total, Names, Apart}
-use Rattle.replay.proofs.Acts.{Act, idle, add, step, undo, shares, gives, same-width, given, Clean}
+use Rattle.replay.specs.Exchange.{flipS, exchanged}
+use Rattle.replay.specs.Demand3.{reversed, bringsBy, total, Names, Apart}
+use Rattle.replay.proofs.Execution.{after-by}
+use Rattle.replay.proofs.Keeping.{za-keeps, after-keeps, kept-is, same-refusal}
+use Rattle.replay.proofs.Acts.{Act, idle, add, step, undo, Width, narrow, wide, Fit, shares, gives, given, Clean}
 use Rattle.replay.proofs.Twins.{Twin, twin}
-use Rattle.replay.proofs.Benches.{accepted-decodes}
 
--- ---- lengths
-effect-length : (vb : ℕ) (z p : List ℕ) (d : Option Instruction) (za : List ℕ) → length (effect vb z p d za) ≡ length za
-effect-length vb z p none za = refl
-effect-length vb z p (some (Predicated op tile pn pm zn zm)) za = addTo-length (elementBytes (op .wide)) vb (tile .0) _ za
-effect-length vb z p (some (Quarter op tile first second)) za = addTo-length (elementBytes (op .wide)) vb (tile .0) _ za
-effect-length vb z p (some (Zero m)) za = clear-length vb m za
+-- ---- lists on one bench, Z and P, as they go from ZA to ZA
+module _ (m : Machine) where
+  abbrev pub next : List ℕ → ℕ → List ℕ
+  next za w = after (withZa m za) w .za
 
-module _ (b : Bench) (z p : List ℕ) where
-  after-length : (za : List ℕ) (w : ℕ) → length (zaAfter b z p za w) ≡ length za
-  unfolding zaAfter
-  after-length za w = go (refusalOf b z p za w)
-    where
-      go : (o : Option Refusal) → length (unless o za (effect (b .vb) z p (describe w) za)) ≡ length za
-      go none = effect-length (b .vb) z p (describe w) za
-      go (some r) = refl
-
-  pub played-length : (ws : List ℕ) (za : List ℕ) → length (played b z p za ws) ≡ length za
+  pub played-next : (ws : List ℕ) (za : List ℕ) → played (withZa m za) ws ≡ withZa m (foldl next za ws)
   unfolding played
-  played-length [] za = refl
-  played-length (w ∷ ws) za = played-length ws (zaAfter b z p za w) ∙ after-length za w
+  played-next [] za = refl
+  played-next (w ∷ ws) za = ap (λ (n : Machine). played n ws) (kept-is (after-keeps (withZa m za) w)) ∙ played-next ws (next za w)
 
-  -- an answer depends on ZA's length alone
-  pub answer-long : (za zb : List ℕ) (w : ℕ) → length za ≡ length zb → refusalOf b z p za w ≡ refusalOf b z p zb w
-  unfolding refusalOf
-  answer-long za zb w e = rw e
+both : (x y : Bool) → x && y ≡ true → (x ≡ true) × (y ≡ true)
+both true y h = (refl, h)
+both false y h = absurd (false≢true h)
 
--- ---- the action of an answer and a description; an accepted ZERO has none
-abbrev pub action : ℕ → List ℕ → List ℕ → Option Refusal → Option Instruction → Act
-action vb z p (some r) d = idle
+-- ---- the action of an answer and an outer product; anything else that is accepted has none
+abbrev pub action : ℕ → List ℕ → List ℕ → Option Refusal → Option OuterProduct → Act
+action vb z p (some r) q = idle
 action vb z p none none = idle
-action vb z p none (some (Predicated op tile pn pm zn zm)) = add (op .wide) (tile .0) (dot (elementBytes (op .wide)) products (predicatedOuter vb op tile pn pm zn zm) z p)
-action vb z p none (some (Quarter op tile first second)) = add (op .wide) (tile .0) (dot (elementBytes (op .wide)) products (quarterOuter vb op tile first second) z p)
-action vb z p none (some (Zero m)) = idle
+action vb z p none (some o) = add (o .element) (o .tile .0) (sumOf vb o z p)
 
-adds-is : (wide w : Bool) (t u : ℕ) → sameWidth wide w && eqb u t ≡ true → (w ≡ wide) × (u ≡ t)
-adds-is true true t u h = (refl, eqb-true u t h)
-adds-is true false t u h = absurd (false≢true h)
-adds-is false true t u h = absurd (false≢true h)
-adds-is false false t u h = (refl, eqb-true u t h)
+-- an outer product's elements have 4 bytes or 8
+width : (op : Operation) → Width (elementBytes op)
+width op = go (op .wide)
+  where
+    go : (b : Bool) → Width (cond b 8 4)
+    go true = wide
+    go false = narrow
+
+action-fits : (vb : ℕ) (z p : List ℕ) (r : Option Refusal) (d : Option Instruction) → Fit (action vb z p r (outerOf d))
+action-fits vb z p (some r) d = tt
+action-fits vb z p none none = tt
+action-fits vb z p none (some (Predicated op tile pn pm zn zm)) = width op
+action-fits vb z p none (some (Quarter op tile first second)) = width op
+action-fits vb z p none (some (Zero mask)) = tt
+
+outer-clears-nothing : (d : Option Instruction) → isOuter d ≡ true → maskOf d ≡ none
+outer-clears-nothing none h = refl
+outer-clears-nothing (some (Predicated op tile pn pm zn zm)) h = refl
+outer-clears-nothing (some (Quarter op tile first second)) h = refl
+outer-clears-nothing (some (Zero mask)) h = absurd (false≢true h)
+
+action-does : (m : Machine) (r : Option Refusal) (q : Option OuterProduct) (c : Option ℕ)
+    → (none? r ≡ true → some? q ≡ true) → (some? q ≡ true → c ≡ none)
+    → unless r m (cleared (added m q) c) .za ≡ step (m .bench .vb) (action (m .bench .vb) (m .z) (m .p) r q) (m .za)
+action-does m (some r) q c h n = refl
+action-does m none none c h n = absurd (false≢true (h refl))
+action-does m none (some o) c h n = rw (n refl)
+
+-- the other way
+abbrev opposite : Option OuterProduct → Option OuterProduct
+opposite none = none
+opposite (some o) =
+    some (record { element = o .element; products = o .products; tile = o .tile; first = o .first; second = o .second; subtract = not (o .subtract) })
+
+outer-reversed : (d : Option Instruction) → outerOf (reversed d) ≡ opposite (outerOf d)
+outer-reversed none = refl
+outer-reversed (some (Predicated op tile pn pm zn zm)) = refl
+outer-reversed (some (Quarter op tile first second)) = refl
+outer-reversed (some (Zero mask)) = refl
+
+opposite-some : (q : Option OuterProduct) → some? (opposite q) ≡ some? q
+opposite-some none = refl
+opposite-some (some o) = refl
 
 module _ (vb : ℕ) (z p : List ℕ) where
-  action-does : (o : Option Refusal) (d : Option Instruction) (za : List ℕ) → (none? o ≡ true → isOuter d ≡ true)
-      → unless o za (effect vb z p d za) ≡ step vb (action vb z p o d) za
-  action-does (some r) d za h = refl
-  action-does none none za h = refl
-  action-does none (some (Predicated op tile pn pm zn zm)) za h = refl
-  action-does none (some (Quarter op tile first second)) za h = refl
-  action-does none (some (Zero m)) za h = absurd (false≢true (h refl))
+  action-opposite : (q : Option OuterProduct) → action vb z p none (opposite q) ≡ undo (action vb z p none q)
+  action-opposite none = refl
+  action-opposite (some o) =
+      ap (add (o .element) (o .tile .0)) (fun-ext (λ row. fun-ext (λ col. dot-negated (o .element) (o .products) vb o z p row col)))
 
-  action-reversed : (d : Option Instruction) → action vb z p none (reversed d) ≡ undo (action vb z p none d)
-  action-reversed none = refl
-  action-reversed (some (Predicated op tile pn pm zn zm)) =
-      ap (add (op .wide) (tile .0))
-      (fun-ext (λ row. fun-ext (λ col. dot-negated (elementBytes (op .wide)) products (predicatedOuter vb op tile pn pm zn zm) z p row col)))
-  action-reversed (some (Quarter op tile first second)) =
-      ap (add (op .wide) (tile .0))
-      (fun-ext (λ row. fun-ext (λ col. dot-negated (elementBytes (op .wide)) products (quarterOuter vb op tile first second) z p row col)))
-  action-reversed (some (Zero m)) = refl
+  -- what adds to a tile names it, and the other way round
+  action-names : (E t : ℕ) (r : Option Refusal) (q : Option OuterProduct) (f : ℕ → ℕ → ℤ) → action vb z p r q ≡ add E t f
+      → (none? r ≡ true) × (isTile E t (tileOfOuter q) ≡ true)
+  action-names E t (some r) q f e = absurd (false≢true (cc))
+  action-names E t none none f e = absurd (false≢true (cc))
+  action-names E t none (some o) f e =
+      let s : o .element ≡ E = cc in
+      let i : o .tile .0 ≡ t = cc in
+      (refl, rw (eq-eqb (o .element) E s) (eq-eqb (o .tile .0) t i))
 
-  module _ (wide : Bool) (t : ℕ) where
-    -- what names a tile adds to it, and the other way round
-    names : (w : Bool) (u : ℕ) (f g : ℕ → ℕ → ℤ) → add w u g ≡ add wide t f → sameWidth wide w && eqb u t ≡ true
-    names w u f g e =
-        let s : w ≡ wide = cc in
-        let i : u ≡ t = cc in
-        rw (s, same-width wide) (eq-eqb u t i)
+  named-action : (E t : ℕ) (r : Option Refusal) (q : Option OuterProduct) → none? r ≡ true → isTile E t (tileOfOuter q) ≡ true
+      → (f : ℕ → ℕ → ℤ) × (action vb z p r q ≡ add E t f)
+  named-action E t (some r) q a h = absurd (false≢true a)
+  named-action E t none none a h = absurd (false≢true h)
+  named-action E t none (some o) a h =
+      let (x, y) = both (eqb (o .element) E) (eqb (o .tile .0) t) h in
+      (sumOf vb o z p, ap₂ (λ (n u : ℕ). add n u (sumOf vb o z p)) (eqb-true (o .element) E x) (eqb-true (o .tile .0) t y))
 
-    action-names : (o : Option Refusal) (d : Option Instruction) (f : ℕ → ℕ → ℤ) → action vb z p o d ≡ add wide t f → (none? o ≡ true) × (addsTo wide t d ≡ true)
-    action-names (some r) d f e = absurd (false≢true (cc))
-    action-names none none f e = absurd (false≢true (cc))
-    action-names none (some (Predicated op tile pn pm zn zm)) f e = (refl, names (op .wide) (tile .0) f _ e)
-    action-names none (some (Quarter op tile first second)) f e = (refl, names (op .wide) (tile .0) f _ e)
-    action-names none (some (Zero m)) f e = absurd (false≢true (cc))
-
-    named-is : (w : Bool) (u : ℕ) (f : ℕ → ℕ → ℤ) → sameWidth wide w && eqb u t ≡ true → add w u f ≡ add wide t f
-    named-is w u f h = let (s, i) = adds-is wide w t u h in ap₂ (λ (v : Bool) (n : ℕ). add v n f) s i
-
-    named-action : (o : Option Refusal) (d : Option Instruction) → none? o ≡ true → addsTo wide t d ≡ true → (f : ℕ → ℕ → ℤ) × (action vb z p o d ≡ add wide t f)
-    named-action (some r) d a h = absurd (false≢true a)
-    named-action none none a h = absurd (false≢true h)
-    named-action none (some (Predicated op tile pn pm zn zm)) a h = (_, named-is (op .wide) (tile .0) _ h)
-    named-action none (some (Quarter op tile first second)) a h = (_, named-is (op .wide) (tile .0) _ h)
-    named-action none (some (Zero m)) a h = absurd (false≢true h)
-
-    action-gives : (row col : ℕ) (o : Option Refusal) (d : Option Instruction)
-        → cond (none? o && addsTo wide t d) (brings vb z p row col d) (pos 0) ≡ gives wide t row col (action vb z p o d)
-    action-gives row col (some r) d = refl
-    action-gives row col none none = refl
-    action-gives row col none (some (Predicated op tile pn pm zn zm)) = refl
-    action-gives row col none (some (Quarter op tile first second)) = refl
-    action-gives row col none (some (Zero m)) = refl
+  action-gives : (E t row col : ℕ) (r : Option Refusal) (q : Option OuterProduct)
+      → cond (none? r && isTile E t (tileOfOuter q)) (bringsBy vb z p row col q) (pos 0) ≡ gives E t row col (action vb z p r q)
+  action-gives E t row col (some r) q = refl
+  action-gives E t row col none none = refl
+  action-gives E t row col none (some o) = refl
 
 -- a named tile is one that its width has
-tile-lt : (wide : Bool) (t : ℕ) (i : Instruction) → inRange i ≡ true → addsTo wide t (some i) ≡ true → t < elementBytes wide
-tile-lt wide t (Predicated op tile pn pm zn zm) h a =
-    let (s, i) = adds-is wide (op .wide) t (tile .0) a in
-    rw (← s, ← i) (ltb-true _ _ (every-all (ranges (Predicated op tile pn pm zn zm)) h .0))
-tile-lt wide t (Quarter op tile first second) h a =
-    let (s, i) = adds-is wide (op .wide) t (tile .0) a in
-    rw (← s, ← i) (ltb-true _ _ (every-all (ranges (Quarter op tile first second)) h .0))
-tile-lt wide t (Zero m) h a = absurd (false≢true a)
+tile-lt : (E t : ℕ) (i : Instruction) → inRange i ≡ true → namesTile E t (some i) ≡ true → t < E
+tile-lt E t (Predicated op tile pn pm zn zm) h a =
+    let (x, y) = both (eqb (elementBytes op) E) (eqb (tile .0) t) a in
+    rw (← eqb-true (elementBytes op) E x, ← eqb-true (tile .0) t y) (ltb-true _ _ (every-all (ranges (Predicated op tile pn pm zn zm)) h .0))
+tile-lt E t (Quarter op tile first second) h a =
+    let (x, y) = both (eqb (elementBytes op) E) (eqb (tile .0) t) a in
+    rw (← eqb-true (elementBytes op) E x, ← eqb-true (tile .0) t y) (ltb-true _ _ (every-all (ranges (Quarter op tile first second)) h .0))
+tile-lt E t (Zero mask) h a = absurd (false≢true a)
 
-pub named-tile : (wide : Bool) (t w : ℕ) → w < 2 ^ 32 → addsTo wide t (describe w) ≡ true → t < elementBytes wide
-named-tile wide t w h a = go (describe w) refl a
+pub named-tile : (E t w : ℕ) → w < 2 ^ 32 → namesTile E t (describe w) ≡ true → t < E
+named-tile E t w h a = go (describe w) refl a
   where
-    go : (d : Option Instruction) → describe w ≡ d → addsTo wide t d ≡ true → t < elementBytes wide
+    go : (d : Option Instruction) → describe w ≡ d → namesTile E t d ≡ true → t < E
     go none e n = absurd (false≢true n)
-    go (some i) e n = tile-lt wide t i (described-is w i h e .0) n
+    go (some i) e n = tile-lt E t i (described-is w i h e .0) n
 
 -- ---- the words of a list, answered on the ZA that it starts from
-module _ (b : Bench) (z p za : List ℕ) where
+module _ (m : Machine) where
   abbrev pub act : ℕ → Act
-  act w = action (b .vb) z p (refusalOf b z p za w) (describe w)
+  act w = action (m .bench .vb) (m .z) (m .p) (refusalOf m w) (outerOf (describe w))
 
-  pub act-does : (w : ℕ) → (accepted b z p za w ≡ true → isOuter (describe w) ≡ true) → (zb : List ℕ) → length zb ≡ length za → zaAfter b z p zb w ≡ step (b .vb) (act w) zb
-  unfolding zaAfter
-  act-does w h zb e = rw (answer-long b z p zb za w e) (action-does (b .vb) z p (refusalOf b z p za w) (describe w) zb h)
+  pub act-fits : (w : ℕ) → Fit (act w)
+  act-fits w = action-fits (m .bench .vb) (m .z) (m .p) (refusalOf m w) (describe w)
 
-  pub zero-does : (w m : ℕ) → accepted b z p za w ≡ true → describe w ≡ some (Zero m) → (zb : List ℕ) → length zb ≡ length za → zaAfter b z p zb w ≡ clear (b .vb) m zb
-  unfolding zaAfter
-  zero-does w m a d zb e = rw (answer-long b z p zb za w e, d) (go (refusalOf b z p za w) a)
-    where
-      go : (o : Option Refusal) → none? o ≡ true → unless o zb (clear (b .vb) m zb) ≡ clear (b .vb) m zb
-      go none h = refl
-      go (some r) h = absurd (false≢true h)
+  module _ (za : List ℕ) (e : length za ≡ length (m .za)) (w : ℕ) where
+    next-is : next m za w ≡ leftBy (withZa m za) w (refusalOf m w) .za
+    next-is = ap (λ (n : Machine). n .za) (after-by (withZa m za) w (refusalOf m w) (same-refusal (za-keeps m za e) w))
 
-  pub act-names : (ws : List ℕ) (w : ℕ) (wide : Bool) (t : ℕ) (f : ℕ → ℕ → ℤ) → List·Mem w ws → act w ≡ add wide t f → Names b z p za ws wide t
-  act-names ws w wide t f m e =
-      let (a, n) = action-names (b .vb) z p wide t (refusalOf b z p za w) (describe w) f e in
-      record { word = w; listed = m; accepts = a; adds = n }
+    pub act-does : (accepted m w ≡ true → isOuter (describe w) ≡ true) → next m za w ≡ step (m .bench .vb) (act w) za
+    act-does h =
+        next-is ∙ action-does (withZa m za) (refusalOf m w) (outerOf (describe w)) (maskOf (describe w)) h (outer-clears-nothing (describe w))
 
-  pub names-act : (ws : List ℕ) (wide : Bool) (t : ℕ) → (n : Names b z p za ws wide t) → (f : ℕ → ℕ → ℤ) × (act (n .word) ≡ add wide t f)
-  names-act ws wide t n = named-action (b .vb) z p wide t (refusalOf b z p za (n .word)) (describe (n .word)) (n .accepts) (n .adds)
+    pub zero-does : (mask : ℕ) → accepted m w ≡ true → describe w ≡ some (Zero mask) → next m za w ≡ clear (m .bench .vb) mask za
+    zero-does mask a d = next-is ∙ rw d (go (refusalOf m w) a)
+      where
+        go : (o : Option Refusal) → none? o ≡ true → unless o (withZa m za) (withZa m (clear (m .bench .vb) mask za)) .za ≡ clear (m .bench .vb) mask za
+        go none h = refl
+        go (some r) h = absurd (false≢true h)
 
-  pub total-given : (wide : Bool) (t row col : ℕ) (ws : List ℕ) → given act wide t row col ws ≡ total b z p za wide t row col ws
-  total-given wide t row col [] = refl
-  total-given wide t row col (w ∷ ws) =
-      ap₂ _+ℤ_ (sym (action-gives (b .vb) z p wide t row col (refusalOf b z p za w) (describe w))) (total-given wide t row col ws)
+  pub act-names : (ws : List ℕ) (w E t : ℕ) (f : ℕ → ℕ → ℤ) → List·Mem w ws → act w ≡ add E t f → Names m ws E t
+  act-names ws w E t f i e =
+      let (a, n) = action-names (m .bench .vb) (m .z) (m .p) E t (refusalOf m w) (outerOf (describe w)) f e in
+      record { word = w; listed = i; accepts = a; names = n }
 
-  pub apart-clean : (ws : List ℕ) → Apart b z p za ws → Clean act ws
+  pub names-act : (ws : List ℕ) (E t : ℕ) → (n : Names m ws E t) → (f : ℕ → ℕ → ℤ) × (act (n .word) ≡ add E t f)
+  names-act ws E t n =
+      named-action (m .bench .vb) (m .z) (m .p) E t (refusalOf m (n .word)) (outerOf (describe (n .word))) (n .accepts) (n .names)
+
+  pub total-given : (E t row col : ℕ) (ws : List ℕ) → given act E t row col ws ≡ total m E t row col ws
+  total-given E t row col [] = refl
+  total-given E t row col (w ∷ ws) =
+      ap₂ _+ℤ_ (sym (action-gives (m .bench .vb) (m .z) (m .p) E t row col (refusalOf m w) (outerOf (describe w)))) (total-given E t row col ws)
+
+  pub apart-clean : (ws : List ℕ) → Apart m ws → Clean act ws
   apart-clean ws h = record { clean = λ v w x y. go v w x y (act v) (act w) refl refl }
     where
+      disjoint : {E F : ℕ} (t u : ℕ) → Width E → Width F → Names m ws E t → Names m ws F u → eqb E 4 && (eqb F 8 && eqb (u % 4) t) ≡ false
+      disjoint t u narrow narrow n k = refl
+      disjoint t u narrow wide n k = ne-eqb (u % 4) t (h t u n k)
+      disjoint t u wide narrow n k = refl
+      disjoint t u wide wide n k = refl
+
       go : (v w : ℕ) → List·Mem v ws → List·Mem w ws → (a c : Act) → act v ≡ a → act w ≡ c → shares a c ≡ false
       go v w x y idle c e f = refl
-      go v w x y (add wide t g) idle e f = refl
-      go v w x y (add false t g) (add false u k) e f = refl
-      go v w x y (add false t g) (add true u k) e f = ne-eqb (u % 4) t (h t u (act-names ws v false t g x e) (act-names ws w true u k y f))
-      go v w x y (add true t g) (add wide u k) e f = refl
+      go v w x y (add E t g) idle e f = refl
+      go v w x y (add E t g) (add F u k) e f =
+          disjoint t u (subst Fit e (act-fits v)) (subst Fit f (act-fits w)) (act-names ws v E t g x e) (act-names ws w F u k y f)
 
   -- ---- exchanged
   reversed-absent : (d : Option Instruction) → absent (reversed d) ≡ absent d
   reversed-absent none = refl
   reversed-absent (some (Predicated op tile pn pm zn zm)) = refl
   reversed-absent (some (Quarter op tile first second)) = refl
-  reversed-absent (some (Zero m)) = refl
+  reversed-absent (some (Zero mask)) = refl
+
+  reversed-modes : (d : Option Instruction) → modesOf (reversed d) ≡ modesOf d
+  reversed-modes none = refl
+  reversed-modes (some (Predicated op tile pn pm zn zm)) = refl
+  reversed-modes (some (Quarter op tile first second)) = refl
+  reversed-modes (some (Zero mask)) = refl
 
   reversed-outer : (d : Option Instruction) → isOuter (reversed d) ≡ isOuter d
-  reversed-outer none = refl
-  reversed-outer (some (Predicated op tile pn pm zn zm)) = refl
-  reversed-outer (some (Quarter op tile first second)) = refl
-  reversed-outer (some (Zero m)) = refl
+  reversed-outer d = ap some? (outer-reversed d) ∙ opposite-some (outerOf d)
 
-  twin-answer : (w v : ℕ) → Twin (b .flags) w v → refusalOf b z p za v ≡ refusalOf b z p za w
+  twin-answer : (w v : ℕ) → Twin (m .bench .flags) w v → refusalOf m v ≡ refusalOf m w
   unfolding refusalOf
-  twin-answer w v t = rw (t .is, t .needs-same, reversed-absent (describe w), reversed-outer (describe w))
+  twin-answer w v t = rw (t .is, t .needs-same, reversed-absent (describe w), reversed-modes (describe w))
 
   -- v is w the other way where w is accepted, and gets the same answer
   pub record Exchanges (w v : ℕ) : Type 0 where
-    pub answer : refusalOf b z p za v ≡ refusalOf b z p za w
-    pub is : accepted b z p za w ≡ true → describe v ≡ reversed (describe w)
+    pub answer : refusalOf m v ≡ refusalOf m w
+    pub is : accepted m w ≡ true → describe v ≡ reversed (describe w)
 
-  module _ (w : ℕ) (fits : w < 2 ^ 32) (outer : accepted b z p za w ≡ true → isOuter (describe w) ≡ true) where
+  module _ (w : ℕ) (fits : w < 2 ^ 32) (outer : accepted m w ≡ true → isOuter (describe w) ≡ true) where
     flipped : isOuter (describe w) ≡ true → Exchanges w (flipS w)
-    flipped o = let t = twin (b .flags) w fits o in record { answer = twin-answer w (flipS w) t; is = λ h. t .is }
+    flipped o = let t = twin (m .bench .flags) w fits o in record { answer = twin-answer w (flipS w) t; is = λ h. t .is }
 
     -- a word that is not accepted may stay as it is
-    kept : accepted b z p za w ≡ false → Exchanges w w
+    kept : accepted m w ≡ false → Exchanges w w
     kept e = record { answer = refl; is = λ h. absurd (false≢true (sym e ∙ h)) }
 
-    pub exchanges : Exchanges w (exchanged b z p za w)
-    exchanges = go (accepted b z p za w) refl
+    pub exchanges : Exchanges w (exchanged m w)
+    exchanges = go (accepted m w) refl
       where
-        go : (c : Bool) → accepted b z p za w ≡ c → Exchanges w (exchanged b z p za w)
+        go : (c : Bool) → accepted m w ≡ c → Exchanges w (exchanged m w)
         go true e = rw (e, outer e) (flipped (outer e))
         go false e = rw e (kept e)
 
-    pub program-exchanges : Exchanges w (exchangeOf (b .flags) w)
-    unfolding exchangeOf
-    program-exchanges = go (eqb (decodeNumber (b .flags) w) 0) (isOuter (describe w)) (accepted b z p za w) refl refl refl
-      where
-        go : (d o c : Bool) → eqb (decodeNumber (b .flags) w) 0 ≡ d → isOuter (describe w) ≡ o → accepted b z p za w ≡ c
-            → Exchanges w (cond (d && o) (flipS w) w)
-        go true true c e f g = flipped f
-        go d false true e f g = absurd (false≢true (sym f ∙ outer g))
-        go true false false e f g = kept g
-        go false false false e f g = kept g
-        go false true false e f g = kept g
-        go false true true e f g = absurd (false≢true (sym e ∙ eq-eqb _ 0 (accepted-decodes b z p za w g)))
-
     module _ (v : ℕ) (x : Exchanges w v) where
-      pub exchanged-outer : accepted b z p za v ≡ true → isOuter (describe v) ≡ true
+      pub exchanged-outer : accepted m v ≡ true → isOuter (describe v) ≡ true
       exchanged-outer h =
-          let a : accepted b z p za w ≡ true = sym (ap none? (x .answer)) ∙ h in
+          let a : accepted m w ≡ true = sym (ap none? (x .answer)) ∙ h in
           ap isOuter (x .is a) ∙ reversed-outer (describe w) ∙ outer a
 
       pub exchanged-undoes : act v ≡ undo (act w)
-      exchanged-undoes = go (refusalOf b z p za w) refl
+      exchanged-undoes = go (refusalOf m w) refl
         where
-          go : (o : Option Refusal) → refusalOf b z p za w ≡ o → act v ≡ undo (act w)
-          go (some r) e = ap₂ (action (b .vb) z p) (x .answer ∙ e) refl ∙ sym (ap (λ (o : Option Refusal). undo (action (b .vb) z p o (describe w))) e)
+          by : Option Refusal → Option OuterProduct → Act
+          by = action (m .bench .vb) (m .z) (m .p)
+
+          go : (o : Option Refusal) → refusalOf m w ≡ o → act v ≡ undo (act w)
+          go (some r) e = ap₂ by (x .answer ∙ e) refl ∙ sym (ap (λ (o : Option Refusal). undo (by o (outerOf (describe w)))) e)
           go none e =
-              ap₂ (action (b .vb) z p) (x .answer ∙ e) (x .is (ap none? e)) ∙ action-reversed (b .vb) z p (describe w)
-              ∙ sym (ap (λ (o : Option Refusal). undo (action (b .vb) z p o (describe w))) e)
+              ap₂ by (x .answer ∙ e) (ap outerOf (x .is (ap none? e)) ∙ outer-reversed (describe w))
+              ∙ action-opposite (m .bench .vb) (m .z) (m .p) (outerOf (describe w))
+              ∙ sym (ap (λ (o : Option Refusal). undo (by o (outerOf (describe w)))) e)

@@ -16,7 +16,9 @@ use Rattle.isa.specs.declared.Decoded.{Decoded}
 use Rattle.isa.specs.declared.Decoded.the-variants.{Accepted, Refused as NotDecoded}
 use Rattle.storage.specs.Sizes.{legal, zSize, pSize, zaSize}
 use Rattle.replay.specs.declared.Bench.{Bench}
-use Rattle.replay.specs.Execution.{benchTests, wordTests, isOuter, outcome, outcomeNumber}
+use Rattle.replay.specs.Instructions.{modesOf}
+use Rattle.replay.specs.declared.Modes.{Modes}
+use Rattle.replay.specs.Execution.{benchTests, wordTests, outcome, outcomeNumber}
 use Rattle.replay.specs.Claims.{Passes, FirstFive}
 use Rattle.replay.proofs.Tests.{listing-refused, listing-accepted}
 
@@ -30,7 +32,7 @@ Late n = 0 < n → 5 < n
 
 -- ---- tests 1 to 5, and others after them
 module _ (b : Bench) (z p za : ℕ) where
-  abbrev benchAnswer : Option Refusal
+  abbrev pub benchAnswer : Option Refusal
   benchAnswer = firstFailure (benchTests b z p za)
 
   -- where the tests stop, by the number m of what follows them and the number that is given
@@ -43,26 +45,26 @@ module _ (b : Bench) (z p za : ℕ) where
     after : Passes b z p za → Stops m m
 
   -- the tests by their conditions
-  bench-1 : allFlags < b .flags → benchAnswer ≡ some Flags
+  pub bench-1 : allFlags < b .flags → benchAnswer ≡ some Flags
   bench-1 f = rw (lt-ltb allFlags (b .flags) f)
 
   module _ (f : b .flags ≤ allFlags) where
-    bench-2 : legal (b .vb) ≡ false → benchAnswer ≡ some VectorLength
+    pub bench-2 : legal (b .vb) ≡ false → benchAnswer ≡ some VectorLength
     bench-2 l = rw (le-ltb allFlags (b .flags) f, l)
 
     module _ (l : legal (b .vb) ≡ true) where
-      bench-3 : (z ≡ zSize (b .vb) → ⊥) → benchAnswer ≡ some ZLength
+      pub bench-3 : (z ≡ zSize (b .vb) → ⊥) → benchAnswer ≡ some ZLength
       bench-3 h = rw (le-ltb allFlags (b .flags) f, l, ne-eqb z (zSize (b .vb)) h)
 
       module _ (g : z ≡ zSize (b .vb)) where
-        bench-4 : (p ≡ pSize (b .vb) → ⊥) → benchAnswer ≡ some PLength
+        pub bench-4 : (p ≡ pSize (b .vb) → ⊥) → benchAnswer ≡ some PLength
         bench-4 h = rw (le-ltb allFlags (b .flags) f, l, eq-eqb z (zSize (b .vb)) g, ne-eqb p (pSize (b .vb)) h)
 
         module _ (h : p ≡ pSize (b .vb)) where
-          bench-5 : (za ≡ zaSize (b .vb) → ⊥) → benchAnswer ≡ some ZaLength
+          pub bench-5 : (za ≡ zaSize (b .vb) → ⊥) → benchAnswer ≡ some ZaLength
           bench-5 i = rw (le-ltb allFlags (b .flags) f, l, eq-eqb z (zSize (b .vb)) g, eq-eqb p (pSize (b .vb)) h, ne-eqb za (zaSize (b .vb)) i)
 
-          bench-none : za ≡ zaSize (b .vb) → benchAnswer ≡ none
+          pub bench-none : za ≡ zaSize (b .vb) → benchAnswer ≡ none
           bench-none i = rw (le-ltb allFlags (b .flags) f, l, eq-eqb z (zSize (b .vb)) g, eq-eqb p (pSize (b .vb)) h, eq-eqb za (zaSize (b .vb)) i)
 
   pub bench-passed : Passes b z p za → benchAnswer ≡ none
@@ -156,58 +158,64 @@ module _ (b : Bench) (z p za : ℕ) where
     )
 
 -- ---- tests 7 to 10
--- where they stop, by decode's number, whether the word is an outer product, the two modes, and the number that is given
-pub data Word : ℕ → Bool → Bool → Bool → ℕ → Type 0 where
-  unlisted : {o s a : Bool} → Word 7 o s a 7
-  feature-off : {o s a : Bool} → Word 8 o s a 8
-  streaming-off : {a : Bool} → Word 0 true false a 9
-  za-off : {o s : Bool} → (o ≡ true → s ≡ true) → Word 0 o s false 10
-  done : {o s : Bool} → (o ≡ true → s ≡ true) → Word 0 o s true 0
+-- where they stop, by decode's number, of each mode whether it is needed and whether it is on, and the number that is given
+pub data Word : ℕ → Bool → Bool → Bool → Bool → ℕ → Type 0 where
+  unlisted : {o s n a : Bool} → Word 7 o s n a 7
+  feature-off : {o s n a : Bool} → Word 8 o s n a 8
+  streaming-off : {n a : Bool} → Word 0 true false n a 9
+  za-off : {o s : Bool} → (o ≡ true → s ≡ true) → Word 0 o s true false 10
+  done : {o s n a : Bool} → (o ≡ true → s ≡ true) → (n ≡ true → a ≡ true) → Word 0 o s n a 0
 
 false-true : {A : Type 0} → false ≡ true → A
 false-true e = absurd (true≢false (sym e))
 
-pub word-late : {d m : ℕ} {o s a : Bool} → Word d o s a m → 0 < m → 6 < m
+pub word-late : {d m : ℕ} {o s n a : Bool} → Word d o s n a m → 0 < m → 6 < m
 word-late unlisted h = omega arith
 word-late feature-off h = omega arith
 word-late streaming-off h = omega arith
 word-late (za-off f) h = omega arith
-word-late (done f) h = absurd (omega arith)
+word-late (done f g) h = absurd (omega arith)
 
-pub word-7 : {d m : ℕ} {o s a : Bool} → Word d o s a m → (m ≡ 7) ↔ (d ≡ 7)
+pub word-7 : {d m : ℕ} {o s n a : Bool} → Word d o s n a m → (m ≡ 7) ↔ (d ≡ 7)
 word-7 unlisted = (λ e. e, λ e. e)
 word-7 feature-off = (λ e. e, λ e. e)
 word-7 streaming-off = (λ e. absurd (omega arith), λ e. absurd (omega arith))
 word-7 (za-off f) = (λ e. absurd (omega arith), λ e. absurd (omega arith))
-word-7 (done f) = (λ e. e, λ e. e)
+word-7 (done f g) = (λ e. e, λ e. e)
 
-pub word-8 : {d m : ℕ} {o s a : Bool} → Word d o s a m → (m ≡ 8) ↔ (d ≡ 8)
+pub word-8 : {d m : ℕ} {o s n a : Bool} → Word d o s n a m → (m ≡ 8) ↔ (d ≡ 8)
 word-8 unlisted = (λ e. e, λ e. e)
 word-8 feature-off = (λ e. e, λ e. e)
 word-8 streaming-off = (λ e. absurd (omega arith), λ e. absurd (omega arith))
 word-8 (za-off f) = (λ e. absurd (omega arith), λ e. absurd (omega arith))
-word-8 (done f) = (λ e. e, λ e. e)
+word-8 (done f g) = (λ e. e, λ e. e)
 
-pub word-9 : {d m : ℕ} {o s a : Bool} → Word d o s a m → (m ≡ 9) ↔ (d ≡ 0) × (o ≡ true) × (s ≡ false)
+pub word-9 : {d m : ℕ} {o s n a : Bool} → Word d o s n a m → (m ≡ 9) ↔ (d ≡ 0) × (o ≡ true) × (s ≡ false)
 word-9 unlisted = (λ e. absurd (omega arith), λ c. absurd (omega arith))
 word-9 feature-off = (λ e. absurd (omega arith), λ c. absurd (omega arith))
 word-9 streaming-off = (λ e. (refl, refl, refl), λ c. refl)
 word-9 (za-off f) = (λ e. absurd (omega arith), λ c. false-true (sym (c .2) ∙ f (c .1)))
-word-9 (done f) = (λ e. absurd (omega arith), λ c. false-true (sym (c .2) ∙ f (c .1)))
+word-9 (done f g) = (λ e. absurd (omega arith), λ c. false-true (sym (c .2) ∙ f (c .1)))
 
-pub word-10 : {d m : ℕ} {o s a : Bool} → Word d o s a m → (m ≡ 10) ↔ (d ≡ 0) × (o ≡ true → s ≡ true) × (a ≡ false)
+pub word-10 : {d m : ℕ} {o s n a : Bool} → Word d o s n a m → (m ≡ 10) ↔ (d ≡ 0) × (o ≡ true → s ≡ true) × (n ≡ true) × (a ≡ false)
 word-10 unlisted = (λ e. absurd (omega arith), λ c. absurd (omega arith))
 word-10 feature-off = (λ e. absurd (omega arith), λ c. absurd (omega arith))
 word-10 streaming-off = (λ e. absurd (omega arith), λ c. false-true (c .1 refl))
-word-10 (za-off f) = (λ e. (refl, f, refl), λ c. refl)
-word-10 (done f) = (λ e. absurd (omega arith), λ c. false-true (sym (c .2)))
+word-10 (za-off f) = (λ e. (refl, f, refl, refl), λ c. refl)
+word-10 (done f g) = (λ e. absurd (omega arith), λ c. false-true (sym (c .3) ∙ g (c .2)))
 
-pub word-0 : {d m : ℕ} {o s a : Bool} → Word d o s a m → (m ≡ 0) ↔ (d ≡ 0) × (o ≡ true → s ≡ true) × (a ≡ true)
+pub word-0 : {d m : ℕ} {o s n a : Bool} → Word d o s n a m → (m ≡ 0) ↔ (d ≡ 0) × (o ≡ true → s ≡ true) × (n ≡ true → a ≡ true)
 word-0 unlisted = (λ e. absurd (omega arith), λ c. absurd (omega arith))
 word-0 feature-off = (λ e. absurd (omega arith), λ c. absurd (omega arith))
 word-0 streaming-off = (λ e. absurd (omega arith), λ c. false-true (c .1 refl))
-word-0 (za-off f) = (λ e. absurd (omega arith), λ c. false-true (c .2))
-word-0 (done f) = (λ e. (refl, f, refl), λ c. refl)
+word-0 (za-off f) = (λ e. absurd (omega arith), λ c. false-true (c .2 refl))
+word-0 (done f g) = (λ e. (refl, f, g), λ c. refl)
+
+-- where streaming mode fits, ZA decides
+modes : (o s n a : Bool) → (o ≡ true → s ≡ true) → Word 0 o s n a (numberOf (cond (n && not a) (some ZaOff) none))
+modes o s true false f = za-off f
+modes o s true true f = done f (λ e. refl)
+modes o s false a f = done f (λ e. false-true e)
 
 module _ (b : Bench) (w : ℕ) where
   -- the number that 7 to 10 give
@@ -221,22 +229,23 @@ module _ (b : Bench) (w : ℕ) where
       go (NotDecoded r) e = rw (e, listing-refused b w f r e)
       go (Accepted i) e = rw (e, listing-accepted b w f i e)
 
-  listed : Word (numberOf (firstFailure (listingTests (b .flags) w))) (isOuter (describe w)) (b .sm) (b .za) wordNumber
-  listed = go (absent (describe w)) (not (eqb (missing (b .flags) w) 0)) (isOuter (describe w)) (b .sm) (b .za)
-    where
-      go : (l m o s a : Bool)
-          → Word (numberOf (cond l (some Unlisted) (cond m (some FeatureOff) none))) o s a
-          (numberOf (cond l (some Unlisted) (cond m (some FeatureOff) (cond (o && not s) (some StreamingOff) (cond (not a) (some ZaOff) none)))))
-      go true m o s a = unlisted
-      go false true o s a = feature-off
-      go false false true false a = streaming-off
-      go false false true true false = za-off (λ e. refl)
-      go false false true true true = done (λ e. refl)
-      go false false false s false = za-off (λ e. false-true e)
-      go false false false s true = done (λ e. false-true e)
+  abbrev needs : Modes
+  needs = modesOf (describe w)
 
-  pub word : b .flags ≤ allFlags → Word (decodeNumber (b .flags) w) (isOuter (describe w)) (b .sm) (b .za) wordNumber
-  word f = subst (λ n. Word n (isOuter (describe w)) (b .sm) (b .za) wordNumber) (sym (decode-number f)) listed
+  listed : Word (numberOf (firstFailure (listingTests (b .flags) w))) (needs .streaming) (b .sm) (needs .za) (b .za) wordNumber
+  listed = go (absent (describe w)) (not (eqb (missing (b .flags) w) 0)) (needs .streaming) (b .sm) (needs .za) (b .za)
+    where
+      go : (l m o s n a : Bool)
+          → Word (numberOf (cond l (some Unlisted) (cond m (some FeatureOff) none))) o s n a
+          (numberOf (cond l (some Unlisted) (cond m (some FeatureOff) (cond (o && not s) (some StreamingOff) (cond (n && not a) (some ZaOff) none)))))
+      go true m o s n a = unlisted
+      go false true o s n a = feature-off
+      go false false true false n a = streaming-off
+      go false false true true n a = modes true true n a (λ e. refl)
+      go false false false s n a = modes false s n a (λ e. false-true e)
+
+  pub word : b .flags ≤ allFlags → Word (decodeNumber (b .flags) w) (needs .streaming) (b .sm) (needs .za) (b .za) wordNumber
+  word f = subst (λ k. Word k (needs .streaming) (b .sm) (needs .za) (b .za) wordNumber) (sym (decode-number f)) listed
 
   pub word-number-late : 0 < wordNumber → 6 < wordNumber
   word-number-late = word-late listed

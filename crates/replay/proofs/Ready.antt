@@ -2,54 +2,71 @@
 use mathlib.Core.Path.{_≡_}
 use mathlib.Core.Bool.{Bool, true, false, cond}
 use mathlib.Core.List.{List}
-use Prim.Native.Nat.{ℕ, _+_, _≤_, _<_}
+use Prim.Native.Nat.{ℕ, _≤_, _<_}
 use native.Mathlib.Omega.{arith}
 use lib.ListN.{length}
 use borrow.Author.Tests.{ltb-true, leb-true}
-use Rattle.isa.specs.Table.{register, isPair, ranges, inRange}
+use Rattle.isa.specs.Table.{elementBytes, productsOf, register, ranges, inRange}
 use Rattle.isa.specs.declared.Tile.{Tile}
 use Rattle.isa.specs.declared.Vector.{Vector}
 use Rattle.isa.specs.declared.Predicate.{Predicate}
 use Rattle.isa.specs.declared.Operation.{Operation}
 use Rattle.isa.specs.declared.Source.{Source}
+use Rattle.isa.specs.declared.Source.the-variants.{One, Pair}
 use Rattle.isa.specs.declared.Instruction.the-variants.{Predicated, Quarter}
 use Rattle.isa.proofs.Tests.{every-all}
-use Rattle.outer.specs.Products.{GoodOperand, Ready}
-use Rattle.replay.specs.Operands.{elementBytes, halvesOperand, predicatedOuter, quarterOuter}
-use Rattle.replay.specs.declared.Bench.{Bench}
-use Rattle.replay.specs.Claims.{Passes}
+use Rattle.outer.specs.Products.{Shaped, bytes32, halves64, GoodOperand, Ready}
+use Rattle.outer.specs.declared.Operand.{Operand}
+use Rattle.replay.specs.Operands.{governedOperand, halvesOperand, outerProduct, predicatedOuter, quarterOuter}
+use Rattle.replay.specs.Machine.{Machine}
+use Rattle.replay.specs.Claims.{BenchPasses}
+
+-- the shape of every operation
+pub shaped : (op : Operation) → Shaped (elementBytes op) (productsOf op)
+shaped op = go (op .wide)
+  where
+    go : (wide : Bool) → Shaped (cond wide 8 4) 4
+    go true = halves64
+    go false = bytes32
+
+governed-good : (v : Vector) (p : Predicate) (unsigned : Bool) → v .0 < 32 → p .0 < 8 → GoodOperand (governedOperand v p unsigned)
+governed-good v p unsigned h k = record { low = h; high = h; predication = omega arith }
 
 -- of a pair both registers are below 32
 halves-good : (s : Source) (unsigned : Bool) → register s ≤ 30 → GoodOperand (halvesOperand s unsigned)
-halves-good s unsigned h = record { low = omega arith; high = high (isPair s); predicate = omega arith }
-  where
-    high : (pair : Bool) → cond pair (register s + 1) (register s) < 32
-    high true = omega arith
-    high false = omega arith
+halves-good (One v) unsigned h = record { low = omega arith; high = omega arith; predication = tt }
+halves-good (Pair v) unsigned h = record { low = omega arith; high = omega arith; predication = tt }
 
-module _ (b : Bench) (z p : List ℕ) (za : ℕ) (fits : Passes b (length z) (length p) za) (op : Operation) (tile : Tile) where
+-- the registers of a quarter-tile instruction in range
+pub quarter-registers : (op : Operation) (tile : Tile) (first second : Source) → inRange (Quarter op tile first second) ≡ true
+    → (register first ≤ 14) × (register second ≤ 30)
+quarter-registers op tile first second h =
+    let r = every-all (ranges (Quarter op tile first second)) h in
+    (leb-true _ _ (r .1 .1 .0), leb-true _ _ (r .1 .1 .1 .1 .1 .0))
+
+module _ (m : Machine) (fits : BenchPasses m) (op : Operation) (tile : Tile) where
+  -- whatever its operands
+  ready : (first second : Operand) → tile .0 < elementBytes op → GoodOperand first → GoodOperand second
+      → Ready (elementBytes op) (m .bench .vb) (outerProduct op tile first second) (m .z) (m .p)
+  ready first second h f s = record {
+    length-legal = fits .length-legal;
+    z-size = fits .z-size;
+    p-size = fits .p-size;
+    tile = h;
+    first = f;
+    second = s;
+  }
+
   pub predicated-ready : (pn pm : Predicate) (zn zm : Vector) → inRange (Predicated op tile pn pm zn zm) ≡ true
-      → Ready (elementBytes (op .wide)) (predicatedOuter (b .vb) op tile pn pm zn zm) z p
+      → Ready (elementBytes op) (m .bench .vb) (predicatedOuter op tile pn pm zn zm) (m .z) (m .p)
   predicated-ready pn pm zn zm h =
       let r = every-all (ranges (Predicated op tile pn pm zn zm)) h in
-      record {
-        length-legal = fits .length-legal;
-        z-size = fits .z-size;
-        p-size = fits .p-size;
-        tile = ltb-true _ _ (r .0);
-        first = omega (arith, ltb-true);
-        second = omega (arith, ltb-true);
-      }
+      ready _ _ (ltb-true _ _ (r .0)) (governed-good zn pn (op .u0) (omega (arith, ltb-true)) (omega (arith, ltb-true)))
+      (governed-good zm pm (op .u1) (omega (arith, ltb-true)) (omega (arith, ltb-true)))
 
   pub quarter-ready : (first second : Source) → inRange (Quarter op tile first second) ≡ true
-      → Ready (elementBytes (op .wide)) (quarterOuter (b .vb) op tile first second) z p
+      → Ready (elementBytes op) (m .bench .vb) (quarterOuter op tile first second) (m .z) (m .p)
   quarter-ready first second h =
       let r = every-all (ranges (Quarter op tile first second)) h in
-      record {
-        length-legal = fits .length-legal;
-        z-size = fits .z-size;
-        p-size = fits .p-size;
-        tile = ltb-true _ _ (r .0);
-        first = halves-good first (op .u0) (omega (arith, leb-true));
-        second = halves-good second (op .u1) (leb-true _ _ (r .1 .1 .1 .1 .1 .0));
-      }
+      let (f, s) = quarter-registers op tile first second h in
+      ready _ _ (ltb-true _ _ (r .0)) (halves-good first (op .u0) (omega arith)) (halves-good second (op .u1) s)

@@ -8,141 +8,169 @@ use lib.ListN.{length, getD, drop, drop-of-length-le}
 use lib.Seq.{drop-cons}
 use borrow.Author.Tests.{lt-ltb, le-ltb}
 use Rattle.isa.specs.Refusals.{firstFailure, orElse}
-use Rattle.isa.specs.Answers.{describe}
 use Rattle.isa.specs.declared.Refusal.{Refusal}
 use Rattle.isa.specs.declared.Refusal.the-variants.{ListLength}
-use Rattle.replay.specs.Execution.{benchTests, wordTests, effect, unless, zaAfter}
-use Rattle.replay.specs.Lists.{played, mostWords, listTest, runTests, before, stop, ranWords, ran, ended, runOf, runZa}
-use Rattle.replay.specs.declared.Bench.{Bench}
+use Rattle.replay.specs.Machine.{Machine, withZa}
+use Rattle.replay.specs.Execution.{wordRefusal, machineTests, leftBy, wordLeft, after, outcomeNumber}
+use Rattle.replay.specs.Lists.{played, mostWords, listTest, runTests, ended, before, stop, endOf, leftAtEnd, ranWords, ran, runOf, runLeft}
+use Rattle.replay.specs.Claims.{runCount, runNumber}
 use Rattle.replay.specs.declared.Ended.{Ended}
 use Rattle.isa.proofs.Refusals.{failure-++}
-use Rattle.replay.proofs.Execution.{refused-by-word, za-after}
+use Rattle.replay.proofs.Execution.{refused-by-word, after-by}
+use Rattle.replay.proofs.Keeping.{Alike, alike-refl, alike-trans, after-alike, after-keeps, kept-is}
 
 left-cons : (ws : List ℕ) (i : ℕ) → i < length ws → drop i ws ≡ getD ws i 0 ∷ drop (i + 1) ws
 left-cons ws i h = let e : suc i ≡ i + 1 = omega arith in drop-cons ws i 0 h ∙ ap (λ n. getD ws i 0 ∷ drop n ws) e
 
-module _ (b : Bench) (z p : List ℕ) where
-  played-cons : (za : List ℕ) (w : ℕ) (ws : List ℕ) → played b z p za (w ∷ ws) ≡ played b z p (zaAfter b z p za w) ws
-  unfolding played
-  played-cons za w ws = refl
+pub played-cons : (m : Machine) (w : ℕ) (ws : List ℕ) → played m (w ∷ ws) ≡ played (after m w) ws
+unfolding played
+played-cons m w ws = refl
 
-  played-none : (za : List ℕ) → played b z p za [] ≡ za
-  unfolding played
-  played-none za = refl
+pub played-none : (m : Machine) → played m [] ≡ m
+unfolding played
+played-none m = refl
 
-  before-cons : (w : ℕ) (ws : List ℕ) → firstFailure (wordTests b w) ≡ none → before b (w ∷ ws) ≡ w ∷ before b ws
+-- ---- the first word of a list
+module _ (m : Machine) (w : ℕ) (ws : List ℕ) where
+  pub before-cons : wordRefusal m w ≡ none → before m (w ∷ ws) ≡ w ∷ before (after m w) ws
   unfolding before
-  before-cons w ws f = rw f
+  before-cons f = rw f
 
-  stop-cons : (w : ℕ) (ws : List ℕ) → firstFailure (wordTests b w) ≡ none → stop b (w ∷ ws) ≡ stop b ws
-  unfolding stop
-  stop-cons w ws f = rw f
+  pub before-none : (r : Refusal) → wordRefusal m w ≡ some r → before m (w ∷ ws) ≡ []
+  unfolding before
+  before-none r f = rw f
 
-  module _ (za₀ ws : List ℕ) where
-    -- ---- a play
-    pub record Playing (za : List ℕ) (i : ℕ) : Type 0 where
-      pub within : i ≤ length ws
-      pub long : length za ≡ length za₀
-      pub left : played b z p za (drop i ws) ≡ played b z p za₀ ws
+  pub stop-cons : wordRefusal m w ≡ none → stop m (w ∷ ws) ≡ stop (after m w) ws
+  unfolding stop played
+  stop-cons f = rw (before-cons f)
 
-    pub play-start : Playing za₀ 0
-    play-start = record { within = omega arith; long = refl; left = refl }
+  pub stop-here : (r : Refusal) → wordRefusal m w ≡ some r → stop m (w ∷ ws) ≡ some r
+  unfolding stop played
+  stop-here r f = rw (before-none r f) f
 
-    pub play-turn : (za za′ : List ℕ) (i : ℕ) → Playing za i → i < length ws → length za′ ≡ length za → za′ ≡ zaAfter b z p za (getD ws i 0) → Playing za′ (i + 1)
-    play-turn za za′ i g h l e =
-        record {
-          within = omega arith;
-          long = l ∙ g .long;
-          left = ap (λ a. played b z p a (drop (i + 1) ws)) e ∙ sym (played-cons za _ _) ∙ sym (ap (played b z p za) (left-cons ws i h)) ∙ g .left;
-        }
+pub before-end : (m : Machine) → before m [] ≡ []
+unfolding before
+before-end m = refl
 
-    pub play-end : (za : List ℕ) (i : ℕ) → Playing za i → length ws ≤ i → za ≡ played b z p za₀ ws
-    play-end za i g h = sym (played-none za) ∙ sym (ap (played b z p za) (drop-of-length-le ws h)) ∙ g .left
+pub stop-end : (m : Machine) → stop m [] ≡ none
+unfolding stop
+stop-end m = rw (before-end m)
 
-    -- ---- a run
-    pub record Running (za : List ℕ) (i : ℕ) : Type 0 where
-      pub within : i ≤ length ws
-      pub long : length za ≡ length za₀
-      pub counts : i + length (before b (drop i ws)) ≡ length (before b ws)
-      pub stops : stop b (drop i ws) ≡ stop b ws
-      pub left : played b z p za (before b (drop i ws)) ≡ played b z p za₀ (before b ws)
+-- a word leaves what its ZA says, as it changes nothing else
+pub turn : (m : Machine) (w : ℕ) (za : List ℕ) → za ≡ after m w .za → withZa m za ≡ after m w
+turn m w za e = ap (withZa m) e ∙ sym (kept-is (after-keeps m w))
 
-    pub run-start : Running za₀ 0
-    run-start = record { within = omega arith; long = refl; counts = omega arith; stops = refl; left = refl }
+module _ (m₀ : Machine) (ws : List ℕ) where
+  -- ---- a play
+  pub record Playing (m : Machine) (i : ℕ) : Type 0 where
+    pub within : i ≤ length ws
+    pub alike : Alike m₀ m
+    pub left : played m (drop i ws) ≡ played m₀ ws
 
-    -- how a run ends: its answer, and its ZA
-    abbrev pub Ends : ℕ → Option Refusal → List ℕ → Type 0
-    Ends n o za = (ended n o ≡ ended (length (before b ws)) (stop b ws)) × (za ≡ played b z p za₀ (before b ws))
+  pub play-start : Playing m₀ 0
+  play-start = record { within = omega arith; alike = alike-refl m₀; left = refl }
 
-    module _ (za : List ℕ) (i : ℕ) (g : Running za i) where
-      -- no word is left to execute
-      run-stops : (o : Option Refusal) → before b (drop i ws) ≡ [] → stop b (drop i ws) ≡ o → Ends i o za
-      run-stops o n s =
+  pub play-turn : (m m′ : Machine) (i : ℕ) → Playing m i → i < length ws → m′ ≡ after m (getD ws i 0) → Playing m′ (i + 1)
+  play-turn m m′ i g h e =
+      record {
+        within = omega arith;
+        alike = rw e (alike-trans (g .alike) (after-alike m (getD ws i 0)));
+        left = ap (λ (n : Machine). played n (drop (i + 1) ws)) e ∙ sym (played-cons m _ _) ∙ sym (ap (played m) (left-cons ws i h)) ∙ g .left;
+      }
+
+  pub play-end : (m : Machine) (i : ℕ) → Playing m i → length ws ≤ i → m .za ≡ played m₀ ws .za
+  play-end m i g h = ap (λ (n : Machine). n .za) (sym (played-none m) ∙ sym (ap (played m) (drop-of-length-le ws h)) ∙ g .left)
+
+  -- ---- a run
+  pub record Running (m : Machine) (i : ℕ) : Type 0 where
+    pub within : i ≤ length ws
+    pub alike : Alike m₀ m
+    pub counts : i + length (before m (drop i ws)) ≡ length (before m₀ ws)
+    pub stops : stop m (drop i ws) ≡ stop m₀ ws
+    pub left : played m (before m (drop i ws)) ≡ played m₀ (before m₀ ws)
+
+  pub run-start : Running m₀ 0
+  run-start = record { within = omega arith; alike = alike-refl m₀; counts = omega arith; stops = refl; left = refl }
+
+  -- how a run ends: its answer, and its ZA
+  abbrev pub RunEnds : ℕ → Option Refusal → List ℕ → Type 0
+  RunEnds n o za = (ended n o ≡ endOf m₀ ws) × (za ≡ leftAtEnd m₀ ws .za)
+
+  module _ (m : Machine) (i : ℕ) (g : Running m i) where
+    -- no word is left to execute
+    run-stops : (o : Option Refusal) → before m (drop i ws) ≡ [] → stop m (drop i ws) ≡ o → RunEnds i o (m .za)
+    run-stops o n s =
+        let c = g .counts in
+        let k : length (before m (drop i ws)) ≡ 0 = ap length n in
+        let e : i ≡ length (before m₀ ws) = omega arith in (
+          ap₂ ended e (sym s ∙ g .stops),
+          ap (λ (n : Machine). n .za) (sym (played-none m) ∙ sym (ap (played m) n) ∙ g .left),
+        )
+
+    pub run-end : length ws ≤ i → RunEnds i none (m .za)
+    run-end h = let e = drop-of-length-le ws h in run-stops none (ap (before m) e ∙ before-end m) (ap (stop m) e ∙ stop-end m)
+
+    module _ (h : i < length ws) where
+      pub run-refused : (r : Refusal) (za : List ℕ) → wordRefusal m (getD ws i 0) ≡ some r → za ≡ wordLeft m (getD ws i 0) .za → RunEnds i (some r) za
+      run-refused r za f u =
+          let e = left-cons ws i h in
+          let s = run-stops (some r) (ap (before m) e ∙ before-none m _ _ r f) (ap (stop m) e ∙ stop-here m _ _ r f) in
+          (s .0, u ∙ ap (λ o. leftBy m (getD ws i 0) o .za) f ∙ s .1)
+
+      pub run-turn : (m′ : Machine) → wordRefusal m (getD ws i 0) ≡ none → m′ ≡ after m (getD ws i 0) → Running m′ (i + 1)
+      run-turn m′ f e =
+          let d = left-cons ws i h in
           let c = g .counts in
-          let m : length (before b (drop i ws)) ≡ 0 = ap length n in
-          let e : i ≡ length (before b ws) = omega arith in (
-            ap₂ ended e (sym s ∙ g .stops),
-            sym (played-none za) ∙ sym (ap (played b z p za) n) ∙ g .left,
-          )
+          let k : before m (drop i ws) ≡ getD ws i 0 ∷ before (after m (getD ws i 0)) (drop (i + 1) ws) = ap (before m) d ∙ before-cons m _ _ f in
+          let n : length (before m (drop i ws)) ≡ suc (length (before (after m (getD ws i 0)) (drop (i + 1) ws))) = ap length k in
+          rw e
+          (record {
+            within = omega arith;
+            alike = alike-trans (g .alike) (after-alike m (getD ws i 0));
+            counts = omega arith;
+            stops = sym (stop-cons m _ _ f) ∙ sym (ap (stop m) d) ∙ g .stops;
+            left = sym (played-cons m _ _) ∙ sym (ap (played m) k) ∙ g .left;
+          })
 
-      pub run-end : length ws ≤ i → Ends i none za
-      unfolding before stop
-      run-end h = let e = drop-of-length-le ws h in run-stops none (ap (before b) e) (ap (stop b) e)
-
-      module _ (h : i < length ws) where
-        pub run-refused : (r : Refusal) (za′ done : List ℕ) → firstFailure (wordTests b (getD ws i 0)) ≡ some r
-            → za′ ≡ unless (firstFailure (wordTests b (getD ws i 0))) za done → Ends i (some r) za′
-        unfolding before stop
-        run-refused r za′ done f u =
-            let e = left-cons ws i h in
-            let s = run-stops (some r) (ap (before b) e ∙ rw f) (ap (stop b) e ∙ rw f) in
-            (s .0, u ∙ ap (λ o. unless o za done) f ∙ s .1)
-
-        pub run-turn : (za′ : List ℕ) → length za′ ≡ length za → firstFailure (wordTests b (getD ws i 0)) ≡ none → za′ ≡ zaAfter b z p za (getD ws i 0) → Running za′ (i + 1)
-        run-turn za′ l f e =
-            let d = left-cons ws i h in
-            let c = g .counts in
-            let k : before b (drop i ws) ≡ getD ws i 0 ∷ before b (drop (i + 1) ws) = ap (before b) d ∙ before-cons _ _ f in
-            let n : length (before b (drop i ws)) ≡ suc (length (before b (drop (i + 1) ws))) = ap length k in
-            record {
-              within = omega arith;
-              long = l ∙ g .long;
-              counts = omega arith;
-              stops = sym (stop-cons _ _ f) ∙ sym (ap (stop b) d) ∙ g .stops;
-              left = ap (λ a. played b z p a (before b (drop (i + 1) ws))) e ∙ sym (played-cons za _ _) ∙ sym (ap (played b z p za) k) ∙ g .left;
-            }
-
-  -- a word of a run leaves ZA as it does singly
-  pub as-single : (za za′ : List ℕ) (w : ℕ) → firstFailure (benchTests b (length z) (length p) (length za)) ≡ none
-      → za′ ≡ unless (firstFailure (wordTests b w)) za (effect (b .vb) z p (describe w) za) → za′ ≡ zaAfter b z p za w
-  as-single za za′ w h e = e ∙ sym (za-after b z p za w _ (refused-by-word b z p za w h))
+-- a word of a run leaves what it does singly
+pub as-single : (m : Machine) (w : ℕ) (za : List ℕ) → firstFailure (machineTests m) ≡ none → za ≡ wordLeft m w .za → withZa m za ≡ after m w
+as-single m w za h e = turn m w za (e ∙ sym (ap (λ (n : Machine). n .za) (after-by m w _ (refused-by-word m w h))))
 
 -- ---- a run by its first tests
-module _ (b : Bench) (z p za ws : List ℕ) where
-  -- a run is ended, and leaves ZA, as tests 1 to 6 and its words say
-  abbrev pub RunIs : Ended → List ℕ → Type 0
-  RunIs r za′ = (r ≡ runOf b z p za ws) × (za′ ≡ runZa b z p za ws)
+module _ (m : Machine) (ws : List ℕ) where
+  -- a run is ended, and leaves, as tests 1 to 6 and its words say; and with its numbers, of ZA
+  abbrev pub RunIs : Ended → Machine → Type 0
+  RunIs r m′ = (r ≡ runOf m ws) × (m′ ≡ runLeft m ws)
 
-  pub run-by : (o : Option Refusal) → firstFailure (runTests b (length z) (length p) (length za) (length ws)) ≡ o
-      → RunIs (ended (length (ranWords o b ws)) (orElse o (stop b ws))) (played b z p za (ranWords o b ws))
-  unfolding runOf runZa ran
-  run-by o h = (sym (ap (λ o. ended (length (ranWords o b ws)) (orElse o (stop b ws))) h), sym (ap (λ o. played b z p za (ranWords o b ws)) h))
+  abbrev pub RunZa : Ended → List ℕ → Type 0
+  RunZa r za = (r ≡ runOf m ws) × ((za ≡ runLeft m ws .za) × ((r .count ≡ runCount m ws) × (outcomeNumber (r .outcome) ≡ runNumber m ws)))
 
-  pub run-not-begun : (r : Refusal) → firstFailure (runTests b (length z) (length p) (length za) (length ws)) ≡ some r → RunIs (ended 0 (some r)) za
-  run-not-begun r h = let e = run-by (some r) h in (e .0, sym (played-none b z p za) ∙ e .1)
+  pub run-numbers : (r : Ended) (za : List ℕ) → r ≡ runOf m ws → za ≡ runLeft m ws .za → RunZa r za
+  run-numbers r za e f = (e, (f, (ap (λ (r : Ended). r .count) e, ap (λ (r : Ended). outcomeNumber (r .outcome)) e)))
 
-  tests-by : (o : Option Refusal) → firstFailure (benchTests b (length z) (length p) (length za)) ≡ o
-      → firstFailure (runTests b (length z) (length p) (length za) (length ws)) ≡ orElse o (firstFailure (listTest (length ws) ∷ []))
-  tests-by o h = failure-++ (benchTests b (length z) (length p) (length za)) (listTest (length ws) ∷ []) ∙ ap (λ o. orElse o (firstFailure (listTest (length ws) ∷ []))) h
+  run-za : (r : Ended) (m′ : Machine) → RunIs r m′ → RunZa r (m′ .za)
+  run-za r m′ e = run-numbers r (m′ .za) (e .0) (ap (λ (n : Machine). n .za) (e .1))
 
-  pub run-bench-refused : (r : Refusal) → firstFailure (benchTests b (length z) (length p) (length za)) ≡ some r → RunIs (ended 0 (some r)) za
-  run-bench-refused r h = run-not-begun r (tests-by (some r) h)
+  pub run-by : (o : Option Refusal) → firstFailure (runTests m ws) ≡ o
+      → RunIs (ended (length (ranWords o m ws)) (orElse o (stop m ws))) (played m (ranWords o m ws))
+  unfolding runOf runLeft ran
+  run-by o h = (sym (ap (λ o. ended (length (ranWords o m ws)) (orElse o (stop m ws))) h), sym (ap (λ o. played m (ranWords o m ws)) h))
 
-  module _ (passes : firstFailure (benchTests b (length z) (length p) (length za)) ≡ none) where
-    pub run-too-long : mostWords < length ws → RunIs (ended 0 (some ListLength)) za
-    run-too-long h = run-not-begun ListLength (tests-by none passes ∙ rw (lt-ltb mostWords (length ws) h))
+  pub run-not-begun : (r : Refusal) → firstFailure (runTests m ws) ≡ some r → RunIs (ended 0 (some r)) m
+  run-not-begun r h = let e = run-by (some r) h in (e .0, sym (played-none m) ∙ e .1)
 
-    pub run-words-played : (r : Ended) (za′ : List ℕ) → length ws ≤ mostWords → r ≡ ended (length (before b ws)) (stop b ws) → za′ ≡ played b z p za (before b ws) → RunIs r za′
-    run-words-played r za′ h e f =
-        let y = run-by none (tests-by none passes ∙ rw (le-ltb mostWords (length ws) h)) in
-        (e ∙ y .0, f ∙ y .1)
+  pub tests-by : (o : Option Refusal) → firstFailure (machineTests m) ≡ o → firstFailure (runTests m ws) ≡ orElse o (firstFailure (listTest (length ws) ∷ []))
+  tests-by o h = failure-++ (machineTests m) (listTest (length ws) ∷ []) ∙ ap (λ o. orElse o (firstFailure (listTest (length ws) ∷ []))) h
+
+  pub run-bench-refused : (r : Refusal) → firstFailure (machineTests m) ≡ some r → RunZa (ended 0 (some r)) (m .za)
+  run-bench-refused r h = run-za _ _ (run-not-begun r (tests-by (some r) h))
+
+  module _ (passes : firstFailure (machineTests m) ≡ none) where
+    pub run-too-long : mostWords < length ws → RunZa (ended 0 (some ListLength)) (m .za)
+    run-too-long h = run-za _ _ (run-not-begun ListLength (tests-by none passes ∙ rw (lt-ltb mostWords (length ws) h)))
+
+    pub run-begun : length ws ≤ mostWords → RunIs (endOf m ws) (leftAtEnd m ws)
+    run-begun h = run-by none (tests-by none passes ∙ rw (le-ltb mostWords (length ws) h))
+
+    pub run-words-played : (r : Ended) (za : List ℕ) → length ws ≤ mostWords → r ≡ endOf m ws → za ≡ leftAtEnd m ws .za → RunZa r za
+    run-words-played r za h e f = let y = run-begun h in run-numbers r za (e ∙ y .0) (f ∙ ap (λ (n : Machine). n .za) (y .1))

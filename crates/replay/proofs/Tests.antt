@@ -5,17 +5,21 @@ use mathlib.Core.List.{List, [], _∷_}
 use mathlib.Core.Option.{Option, none, some}
 use Prim.Native.Nat.{ℕ, _≤_}
 use native.Mathlib.Omega.{arith}
+use lib.ListN.{length}
 use borrow.Author.Tests.{ltb-false, le-ltb, eqb-true, not-false}
 use Rattle.isa.specs.Refusals.{Test, firstFailure, orElse}
 use Rattle.isa.specs.Table.{allFlags}
-use Rattle.isa.specs.Answers.{describe, listingTests, decodeTests, decodeOf}
+use Rattle.isa.specs.Answers.{describe, listingTests, decodeTests, decided, decodeOf}
 use Rattle.isa.specs.declared.Refusal.{Refusal}
 use Rattle.isa.specs.declared.Instruction.{Instruction}
+use Rattle.isa.specs.declared.Decoded.{Decoded}
 use Rattle.isa.specs.declared.Decoded.the-variants.{Accepted, Refused as NotDecoded}
 use Rattle.isa.proofs.Refusals.{failure-++}
-use Rattle.isa.proofs.Answers.{decode-refused, decode-passed}
-use Rattle.replay.specs.Execution.{benchTests, isOuter, modeTests, wordTests, outcome}
-use Rattle.replay.specs.Claims.{Passes}
+use Rattle.isa.proofs.Answers.{decode-refused, decode-passed, decided-accepted, decided-refused}
+use Rattle.replay.specs.Instructions.{modesOf}
+use Rattle.replay.specs.Machine.{Machine}
+use Rattle.replay.specs.Execution.{benchTests, modeTests, wordTests, machineTests, outcome}
+use Rattle.replay.specs.Claims.{Passes, BenchPasses}
 use Rattle.replay.specs.declared.Bench.{Bench}
 use Rattle.replay.specs.declared.Outcome.the-variants.{Done, Refused}
 
@@ -42,7 +46,7 @@ outcome-refused none r p = let z : _≡_ {A = ℕ} 0 1 = cc in absurd (omega ari
 outcome-refused (some s) r p = let z : s ≡ r = cc in ap {B = Option Refusal} some z
 
 -- ---- a bench that passed 1 to 5
-pub bench-passes : (b : Bench) (z p za : ℕ) → firstFailure (benchTests b z p za) ≡ none → Passes b z p za
+bench-passes : (b : Bench) (z p za : ℕ) → firstFailure (benchTests b z p za) ≡ none → Passes b z p za
 bench-passes b z p za h =
     let a = all-pass (benchTests b z p za) h in
     record {
@@ -52,6 +56,9 @@ bench-passes b z p za h =
       p-size = eqb-true _ _ (not-false _ (a .1 .1 .1 .0));
       za-size = eqb-true _ _ (not-false _ (a .1 .1 .1 .1 .0));
     }
+
+pub machine-passes : (m : Machine) → firstFailure (machineTests m) ≡ none → BenchPasses m
+machine-passes m h = bench-passes (m .bench) (length (m .z)) (length (m .p)) (length (m .za)) h
 
 -- ---- a word, by decode's answer
 module _ (b : Bench) (w : ℕ) (legal-flags : b .flags ≤ allFlags) where
@@ -66,11 +73,25 @@ module _ (b : Bench) (w : ℕ) (legal-flags : b .flags ≤ allFlags) where
 
   pub word-refused : (r : Refusal) → decodeOf (b .flags) w ≡ NotDecoded r → firstFailure (wordTests b w) ≡ some r
   word-refused r p =
-      failure-++ (listingTests (b .flags) w) (modeTests b (isOuter (describe w)))
-      ∙ ap (λ o. orElse o (firstFailure (modeTests b (isOuter (describe w))))) (listing-refused r p)
+      failure-++ (listingTests (b .flags) w) (modeTests b (modesOf (describe w)))
+      ∙ ap (λ o. orElse o (firstFailure (modeTests b (modesOf (describe w))))) (listing-refused r p)
 
-  pub word-accepted : (i : Instruction) → decodeOf (b .flags) w ≡ Accepted i → firstFailure (wordTests b w) ≡ firstFailure (modeTests b (isOuter (some i)))
+  pub word-accepted : (i : Instruction) → decodeOf (b .flags) w ≡ Accepted i → firstFailure (wordTests b w) ≡ firstFailure (modeTests b (modesOf (some i)))
   word-accepted i p =
-      failure-++ (listingTests (b .flags) w) (modeTests b (isOuter (describe w)))
-      ∙ ap (λ o. orElse o (firstFailure (modeTests b (isOuter (describe w))))) (listing-accepted i p)
-      ∙ ap (λ d. firstFailure (modeTests b (isOuter d))) (decode-passed (b .flags) w i p .1)
+      failure-++ (listingTests (b .flags) w) (modeTests b (modesOf (describe w)))
+      ∙ ap (λ o. orElse o (firstFailure (modeTests b (modesOf (describe w))))) (listing-accepted i p)
+      ∙ ap (λ d. firstFailure (modeTests b (modesOf d))) (decode-passed (b .flags) w i p .1)
+
+-- ---- a word, by what it is admitted as
+module _ (b : Bench) (w : ℕ) where
+  abbrev admitted : Decoded
+  admitted = decided (firstFailure (wordTests b w)) (describe w)
+
+  pub admit-accepted : (i : Instruction) → Accepted i ≡ admitted → (firstFailure (wordTests b w) ≡ none) × (describe w ≡ some i)
+  admit-accepted i p = decided-accepted (firstFailure (wordTests b w)) (describe w) i (sym p)
+
+  unlisted-fails : describe w ≡ none → firstFailure (wordTests b w) ≡ none → ⊥
+  unlisted-fails d p = let q = rw d at p in let z : _≡_ {A = ℕ} 0 1 = cc in omega arith
+
+  pub admit-refused : (r : Refusal) → NotDecoded r ≡ admitted → firstFailure (wordTests b w) ≡ some r
+  admit-refused r p = decided-refused (firstFailure (wordTests b w)) (describe w) r unlisted-fails (sym p)

@@ -19,7 +19,7 @@ use Rattle.isa.specs.declared.Instruction.the-variants.{Predicated, Quarter, Ze
 use Rattle.isa.proofs.Rows.{Fit}
 use Rattle.isa.proofs.Lines.{range-fit}
 use Rattle.isa.proofs.Theorems.{described-is, describe-word, missing-word}
-use Rattle.replay.specs.Execution.{isOuter}
+use Rattle.replay.specs.Instructions.{isOuter}
 use Rattle.replay.specs.Exchange.{flipS}
 use Rattle.replay.specs.Demand3.{otherDirection, reversed}
 
@@ -28,7 +28,8 @@ flipped : (w v : ℕ) (s : Bool) → w + 16 * bit (not s) ≡ v + 16 * bit s →
 flipped w v true e h = rw (eq-eqb _ 1 h) (omega arith)
 flipped w v false e h = rw (ne-eqb (w / 16 % 2) 1 (omega arith)) (omega arith)
 
-predicated-flipped : (op : Operation) (tile : Tile) (pn pm : Predicate) (zn zm : Vector) → let i = Predicated op tile pn pm zn zm in Fit (entryOf i .row) (fieldsFrom i)
+predicated-flipped : (op : Operation) (tile : Tile) (pn pm : Predicate) (zn zm : Vector) → let i = Predicated op tile pn pm zn zm in
+    Fit (entryOf i .row) (fieldsFrom i)
     → flipS (wordFor i) ≡ wordFor (Predicated (otherDirection op) tile pn pm zn zm)
 predicated-flipped op tile pn pm zn zm = go (op .wide)
   where

@@ -2,25 +2,32 @@
 use mathlib.Core.Path.{_≡_}
 use mathlib.Core.Bool.{true, false}
 use mathlib.Core.Logic.{_↔_}
-use mathlib.Core.List.{List}
+use mathlib.Core.List.{List, [], _∷_}
 use Prim.Native.Nat.{ℕ, _≤_, _<_}
 use lib.ListN.{length, getD, take}
 use Rattle.isa.specs.Table.{allFlags}
 use Rattle.isa.specs.Answers.{describe, decodeNumber}
 use Rattle.storage.specs.Sizes.{legal, zSize, pSize, zaSize}
 use Rattle.replay.specs.declared.Bench.{Bench}
-use Rattle.replay.specs.Execution.{isOuter, refusalOf, effect, zaAfter, outcome, outcomeNumber}
-use Rattle.replay.specs.Lists.{played, mostWords, runOf, runZa}
+use Rattle.replay.specs.Machine.{Machine}
+use Rattle.replay.specs.Instructions.{isOuter, modesOf}
+use Rattle.replay.specs.Execution.{refusalOf, effect, after, outcome, outcomeNumber}
+use Rattle.replay.specs.Lists.{played, mostWords, runOf, runLeft}
 
 -- ---- the numbers
-abbrev pub executeNumber : Bench → List ℕ → List ℕ → List ℕ → ℕ → ℕ
-executeNumber b z p za w = outcomeNumber (outcome (refusalOf b z p za w))
+abbrev pub executeNumber : Machine → ℕ → ℕ
+executeNumber m w = outcomeNumber (outcome (refusalOf m w))
 
-abbrev pub runNumber : Bench → List ℕ → List ℕ → List ℕ → List ℕ → ℕ
-runNumber b z p za ws = outcomeNumber (runOf b z p za ws .outcome)
+-- each word's, in the order of the list, as the list is played
+unfoldable pub answers : Machine → List ℕ → List ℕ
+answers m [] = []
+answers m (w ∷ ws) = executeNumber m w ∷ answers (after m w) ws
 
-abbrev pub runCount : Bench → List ℕ → List ℕ → List ℕ → List ℕ → ℕ
-runCount b z p za ws = runOf b z p za ws .count
+abbrev pub runNumber : Machine → List ℕ → ℕ
+runNumber m ws = outcomeNumber (runOf m ws .outcome)
+
+abbrev pub runCount : Machine → List ℕ → ℕ
+runCount m ws = runOf m ws .count
 
 -- ---- the bench and the lengths of Z, P and ZA
 module _ (b : Bench) (z p za : ℕ) where
@@ -40,40 +47,66 @@ module _ (b : Bench) (z p za : ℕ) where
     pub gives-4 : (number ≡ 4) ↔ (b .flags ≤ allFlags) × (legal (b .vb) ≡ true) × (z ≡ zSize (b .vb)) × (p ≡ pSize (b .vb) → ⊥)
     pub gives-5 : (number ≡ 5) ↔ (b .flags ≤ allFlags) × (legal (b .vb) ≡ true) × (z ≡ zSize (b .vb)) × (p ≡ pSize (b .vb)) × (za ≡ zaSize (b .vb) → ⊥)
 
--- ---- one word: which number it gets, and what it leaves of ZA
-module _ (b : Bench) (z p za : List ℕ) where
-  abbrev pub BenchPasses : Type 0
-  BenchPasses = Passes b (length z) (length p) (length za)
+-- ---- what no word changes: the bench, Z, P and the length of ZA; a word's answer depends on nothing else
+pub record Keeps (m m′ : Machine) : Type 0 where
+  pub bench : m′ .bench ≡ m .bench
+  pub z : m′ .z ≡ m .z
+  pub p : m′ .p ≡ m .p
+  pub za-length : length (m′ .za) ≡ length (m .za)
 
-  -- streaming mode is on where the word needs it
+-- ---- one word: which number it gets, and what it leaves
+module _ (m : Machine) where
+  abbrev pub BenchPasses : Type 0
+  BenchPasses = Passes (m .bench) (length (m .z)) (length (m .p)) (length (m .za))
+
+  abbrev pub BenchFails : ℕ → Type 0
+  BenchFails number = FirstFive (m .bench) (length (m .z)) (length (m .p)) (length (m .za)) number
+
+  -- a mode is on where the word needs it
   abbrev pub StreamingFits : ℕ → Type 0
-  StreamingFits w = isOuter (describe w) ≡ true → b .sm ≡ true
+  StreamingFits w = modesOf (describe w) .streaming ≡ true → m .bench .sm ≡ true
+
+  abbrev pub ZaFits : ℕ → Type 0
+  ZaFits w = modesOf (describe w) .za ≡ true → m .bench .za ≡ true
+
+  -- tests 1 to 5 pass, and decode accepts the word
+  abbrev pub DecodeAccepts : ℕ → Type 0
+  DecodeAccepts w = BenchPasses × (decodeNumber (m .bench .flags) w ≡ 0)
 
   pub record Executes (w : ℕ) : Type 0 where
-    pub first-five : FirstFive b (length z) (length p) (length za) (executeNumber b z p za w)
-    pub gives-7 : (executeNumber b z p za w ≡ 7) ↔ BenchPasses × (decodeNumber (b .flags) w ≡ 7)
-    pub gives-8 : (executeNumber b z p za w ≡ 8) ↔ BenchPasses × (decodeNumber (b .flags) w ≡ 8)
-    pub gives-9 : (executeNumber b z p za w ≡ 9) ↔ BenchPasses × (decodeNumber (b .flags) w ≡ 0) × (isOuter (describe w) ≡ true) × (b .sm ≡ false)
-    pub gives-10 : (executeNumber b z p za w ≡ 10) ↔ BenchPasses × (decodeNumber (b .flags) w ≡ 0) × StreamingFits w × (b .za ≡ false)
-    pub accepts : (executeNumber b z p za w ≡ 0) ↔ BenchPasses × (decodeNumber (b .flags) w ≡ 0) × StreamingFits w × (b .za ≡ true)
-    pub refused : (executeNumber b z p za w ≡ 0 → ⊥) → zaAfter b z p za w ≡ za
-    pub executed : executeNumber b z p za w ≡ 0 → zaAfter b z p za w ≡ effect (b .vb) z p (describe w) za
+    pub first-five : BenchFails (executeNumber m w)
+    pub gives-7 : (executeNumber m w ≡ 7) ↔ BenchPasses × (decodeNumber (m .bench .flags) w ≡ 7)
+    pub gives-8 : (executeNumber m w ≡ 8) ↔ BenchPasses × (decodeNumber (m .bench .flags) w ≡ 8)
+    pub gives-9 : (executeNumber m w ≡ 9) ↔ DecodeAccepts w × (modesOf (describe w) .streaming ≡ true) × (m .bench .sm ≡ false)
+    pub gives-10 : (executeNumber m w ≡ 10) ↔ DecodeAccepts w × StreamingFits w × (modesOf (describe w) .za ≡ true) × (m .bench .za ≡ false)
+    pub accepts : (executeNumber m w ≡ 0) ↔ DecodeAccepts w × StreamingFits w × ZaFits w
+    pub refused : (executeNumber m w ≡ 0 → ⊥) → after m w ≡ m
+    pub executed : executeNumber m w ≡ 0 → after m w ≡ effect m (describe w)
+
+  -- document 01's own wording of 9, 10 and 0: outer products need streaming mode, and every word needs ZA
+  abbrev pub OuterFits : ℕ → Type 0
+  OuterFits w = isOuter (describe w) ≡ true → m .bench .sm ≡ true
+
+  pub record NeedsModes (w : ℕ) : Type 0 where
+    pub gives-9 : (executeNumber m w ≡ 9) ↔ DecodeAccepts w × (isOuter (describe w) ≡ true) × (m .bench .sm ≡ false)
+    pub gives-10 : (executeNumber m w ≡ 10) ↔ DecodeAccepts w × OuterFits w × (m .bench .za ≡ false)
+    pub accepts : (executeNumber m w ≡ 0) ↔ DecodeAccepts w × OuterFits w × (m .bench .za ≡ true)
 
 -- ---- a run
-module _ (b : Bench) (z p za ws : List ℕ) where
+module _ (m : Machine) (ws : List ℕ) where
   -- tests 1 to 6 let it begin: so many words are executed, and the number is that of the word after them
-  pub record Ends (count number : ℕ) (after : List ℕ) : Type 0 where
+  pub record Ends (count number : ℕ) (left : Machine) : Type 0 where
     pub within : count ≤ length ws
-    -- each of them singly, and the word after them, whatever ZA of that length holds
-    pub executed : (i : ℕ) → i < count → (zb : List ℕ) → length zb ≡ length za → executeNumber b z p zb (getD ws i 0) ≡ 0
-    pub refused : count < length ws → (zb : List ℕ) → length zb ≡ length za → executeNumber b z p zb (getD ws count 0) ≡ number
+    -- each of them singly, on what the words before it left, and the word after them
+    pub executed : (i : ℕ) → i < count → executeNumber (played m (take i ws)) (getD ws i 0) ≡ 0
+    pub refused : count < length ws → executeNumber left (getD ws count 0) ≡ number
     -- no word is refused exactly where all are executed
     pub whole : (number ≡ 0) ↔ (count ≡ length ws)
-    pub leaves : after ≡ played b z p za (take count ws)
+    pub leaves : left ≡ played m (take count ws)
 
   pub record Runs : Type 0 where
-    pub first-five : FirstFive b (length z) (length p) (length za) (runNumber b z p za ws)
-    pub gives-6 : (runNumber b z p za ws ≡ 6) ↔ BenchPasses b z p za × (mostWords < length ws)
-    pub not-begun : 0 < runNumber b z p za ws → runNumber b z p za ws ≤ 6 → (runCount b z p za ws ≡ 0) × (runZa b z p za ws ≡ za)
-    pub most : runCount b z p za ws ≤ mostWords
-    pub begun : BenchPasses b z p za → length ws ≤ mostWords → Ends (runCount b z p za ws) (runNumber b z p za ws) (runZa b z p za ws)
+    pub first-five : BenchFails m (runNumber m ws)
+    pub gives-6 : (runNumber m ws ≡ 6) ↔ BenchPasses m × (mostWords < length ws)
+    pub not-begun : 0 < runNumber m ws → runNumber m ws ≤ 6 → (runCount m ws ≡ 0) × (runLeft m ws ≡ m)
+    pub most : runCount m ws ≤ mostWords
+    pub begun : BenchPasses m → length ws ≤ mostWords → Ends (runCount m ws) (runNumber m ws) (runLeft m ws)

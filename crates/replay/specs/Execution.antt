@@ -1,4 +1,4 @@
--- One word: which refusal it gets, and what it leaves in ZA (document 01, "Execution" and "Refusal numbers").
+-- One word: which refusal it gets, and what it leaves (document 01, "Execution" and "Refusal numbers").
 use mathlib.Core.Bool.{Bool, true, false, not, _&&_}
 use mathlib.Core.List.{List, [], _∷_, _++_}
 use mathlib.Core.Option.{Option, none, some}
@@ -10,13 +10,14 @@ use Rattle.isa.specs.Answers.{describe, flagsTest, listingTests}
 use Rattle.isa.specs.declared.Refusal.{Refusal}
 use Rattle.isa.specs.declared.Refusal.the-variants.{VectorLength, ZLength, PLength, ZaLength, StreamingOff, ZaOff}
 use Rattle.isa.specs.declared.Instruction.{Instruction}
-use Rattle.isa.specs.declared.Instruction.the-variants.{Predicated, Quarter, Zero}
 use Rattle.storage.specs.Sizes.{legal, zSize, pSize, zaSize}
 use Rattle.storage.specs.Tile.{addTo, clear}
-use Rattle.outer.specs.Products.{dot}
+use Rattle.replay.specs.Machine.{Machine, withZa}
 use Rattle.outer.specs.declared.OuterProduct.{OuterProduct}
-use Rattle.replay.specs.Operands.{elementBytes, products, predicatedOuter, quarterOuter}
+use Rattle.replay.specs.Operands.{sumOf}
+use Rattle.replay.specs.Instructions.{outerOf, maskOf, modesOf}
 use Rattle.replay.specs.declared.Bench.{Bench}
+use Rattle.replay.specs.declared.Modes.{Modes}
 use Rattle.replay.specs.declared.Outcome.{Outcome}
 use Rattle.replay.specs.declared.Outcome.the-variants.{Done, Refused}
 
@@ -30,46 +31,63 @@ benchTests b z p za =
     ∷ record { fails = not (eqb za (zaSize (b .vb))); gives = ZaLength }
     ∷ []
 
--- whether a description is an outer product; only these need streaming mode
-abbrev pub isOuter : Option Instruction → Bool
-isOuter none = false
-isOuter (some (Predicated op tile pn pm zn zm)) = true
-isOuter (some (Quarter op tile first second)) = true
-isOuter (some (Zero m)) = false
-
--- tests 9 and 10, of an outer product or of another instruction
-abbrev pub modeTests : Bench → Bool → List Test
-modeTests b outer =
-    record { fails = outer && not (b .sm); gives = StreamingOff }
-    ∷ record { fails = not (b .za); gives = ZaOff }
+-- tests 9 and 10, of an instruction with these needs
+abbrev pub modeTests : Bench → Modes → List Test
+modeTests b needs =
+    record { fails = needs .streaming && not (b .sm); gives = StreamingOff }
+    ∷ record { fails = needs .za && not (b .za); gives = ZaOff }
     ∷ []
 
 -- tests 7 to 10, of a word
 abbrev pub wordTests : Bench → ℕ → List Test
-wordTests b w = listingTests (b .flags) w ++ modeTests b (isOuter (describe w))
+wordTests b w = listingTests (b .flags) w ++ modeTests b (modesOf (describe w))
 
--- one word: tests 1 to 5, then 7 to 10
-unfoldable pub refusalOf : Bench → List ℕ → List ℕ → List ℕ → ℕ → Option Refusal
-refusalOf b z p za w = firstFailure (benchTests b (length z) (length p) (length za) ++ wordTests b w)
+-- the refusal that 7 to 10 give a word
+abbrev pub wordRefusal : Machine → ℕ → Option Refusal
+wordRefusal m w = firstFailure (wordTests (m .bench) w)
 
--- an outer product on tile elements of either width
-abbrev pub outerEffect : Bool → OuterProduct → List ℕ → List ℕ → List ℕ → List ℕ
-outerEffect wide o z p za = addTo (elementBytes wide) (o .vb) (o .tile) (dot (elementBytes wide) products o z p) za
+-- tests 1 to 5, of what a word is executed on
+abbrev pub machineTests : Machine → List Test
+machineTests m = benchTests (m .bench) (length (m .z)) (length (m .p)) (length (m .za))
 
--- what an accepted word leaves of ZA
-abbrev pub effect : ℕ → List ℕ → List ℕ → Option Instruction → List ℕ → List ℕ
-effect vb z p none za = za
-effect vb z p (some (Predicated op tile pn pm zn zm)) za = outerEffect (op .wide) (predicatedOuter vb op tile pn pm zn zm) z p za
-effect vb z p (some (Quarter op tile first second)) za = outerEffect (op .wide) (quarterOuter vb op tile first second) z p za
-effect vb z p (some (Zero m)) za = clear vb m za
+-- the refusal that a word gets: tests 1 to 5, then 7 to 10
+unfoldable pub refusalOf : Machine → ℕ → Option Refusal
+refusalOf m w = firstFailure (machineTests m ++ wordTests (m .bench) w)
 
-abbrev pub unless : Option Refusal → List ℕ → List ℕ → List ℕ
+-- none of 1 to 5 and 7 to 10 applies
+abbrev pub none? : Option Refusal → Bool
+none? none = true
+none? (some r) = false
+
+abbrev pub accepted : Machine → ℕ → Bool
+accepted m w = none? (refusalOf m w)
+
+-- what an accepted instruction leaves: an outer product adds to its tile, ZERO clears rows
+abbrev pub added : Machine → Option OuterProduct → Machine
+added m none = m
+added m (some o) = withZa m (addTo (o .element) (m .bench .vb) (o .tile .0) (sumOf (m .bench .vb) o (m .z) (m .p)) (m .za))
+
+abbrev pub cleared : Machine → Option ℕ → Machine
+cleared m none = m
+cleared m (some mask) = withZa m (clear (m .bench .vb) mask (m .za))
+
+abbrev pub effect : Machine → Option Instruction → Machine
+effect m d = cleared (added m (outerOf d)) (maskOf d)
+
+abbrev pub unless : {A : Type 0} → Option Refusal → A → A → A
 unless (some r) refused done = refused
 unless none refused done = done
 
--- ZA after a word: a refused one leaves it as it was
-unfoldable pub zaAfter : Bench → List ℕ → List ℕ → List ℕ → ℕ → List ℕ
-zaAfter b z p za w = unless (refusalOf b z p za w) za (effect (b .vb) z p (describe w) za)
+-- what a word leaves, by its refusal: all as it was where there is one
+abbrev pub leftBy : Machine → ℕ → Option Refusal → Machine
+leftBy m w o = unless o m (effect m (describe w))
+
+-- on a bench that passed 1 to 5
+abbrev pub wordLeft : Machine → ℕ → Machine
+wordLeft m w = leftBy m w (wordRefusal m w)
+
+unfoldable pub after : Machine → ℕ → Machine
+after m w = leftBy m w (refusalOf m w)
 
 -- the answer, and its number in the paper
 abbrev pub outcome : Option Refusal → Outcome

@@ -1,4 +1,6 @@
+pub mod Machine
 pub mod Operands
+pub mod Instructions
 pub mod Execution
 pub mod Lists
 pub mod Claims

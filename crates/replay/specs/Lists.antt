@@ -3,17 +3,17 @@ use mathlib.Core.List.{List, [], _∷_, _++_, foldl}
 use mathlib.Core.Option.{Option, none, some}
 use Prim.Native.Nat.{ℕ}
 use lib.Dec.{ltb}
-use lib.ListN.{length}
+use lib.ListN.{length, drop}
 use Rattle.isa.specs.Refusals.{Test, firstFailure, orElse}
 use Rattle.isa.specs.declared.Refusal.{Refusal}
 use Rattle.isa.specs.declared.Refusal.the-variants.{ListLength}
-use Rattle.replay.specs.declared.Bench.{Bench}
 use Rattle.replay.specs.declared.Ended.{Ended}
-use Rattle.replay.specs.Execution.{benchTests, wordTests, zaAfter, outcome}
+use Rattle.replay.specs.Machine.{Machine}
+use Rattle.replay.specs.Execution.{machineTests, wordRefusal, after, outcome}
 
--- every word in turn, each on the ZA that the last one left
-unfoldable pub played : Bench → List ℕ → List ℕ → List ℕ → List ℕ → List ℕ
-played b z p za ws = foldl (zaAfter b z p) za ws
+-- every word in turn, each on what the last one left
+unfoldable pub played : Machine → List ℕ → Machine
+played m ws = foldl after m ws
 
 -- the most words that a run takes
 abbrev pub mostWords : ℕ
@@ -23,37 +23,49 @@ abbrev pub listTest : ℕ → Test
 listTest words = record { fails = ltb mostWords words; gives = ListLength }
 
 -- tests 1 to 6, made once
-abbrev pub runTests : Bench → ℕ → ℕ → ℕ → ℕ → List Test
-runTests b z p za words = benchTests b z p za ++ (listTest words ∷ [])
+abbrev pub runTests : Machine → List ℕ → List Test
+runTests m ws = machineTests m ++ (listTest (length ws) ∷ [])
 
--- the words before the first that 7 to 10 refuse, and that refusal
+-- how many words were executed, and the refusal that came next
+abbrev pub ended : ℕ → Option Refusal → Ended
+ended n o = record { count = n; outcome = outcome o }
+
+-- the words before the first that 7 to 10 refuse, each tested on what the words before it left
 abbrev pub keep : Option Refusal → ℕ → List ℕ → List ℕ
 keep none w ws = w ∷ ws
 keep (some r) w ws = []
 
-unfoldable pub before : Bench → List ℕ → List ℕ
-before b [] = []
-before b (w ∷ ws) = keep (firstFailure (wordTests b w)) w (before b ws)
+unfoldable pub before : Machine → List ℕ → List ℕ
+before m [] = []
+before m (w ∷ ws) = keep (wordRefusal m w) w (before (after m w) ws)
 
-unfoldable pub stop : Bench → List ℕ → Option Refusal
-stop b [] = none
-stop b (w ∷ ws) = orElse (firstFailure (wordTests b w)) (stop b ws)
+-- the refusal of the word that comes next, if one does
+abbrev pub nextRefusal : Machine → List ℕ → Option Refusal
+nextRefusal m [] = none
+nextRefusal m (w ∷ ws) = wordRefusal m w
 
--- the words that a run executes, and why it ends: none where tests 1 to 6 refuse
-abbrev pub ranWords : Option Refusal → Bench → List ℕ → List ℕ
-ranWords none b ws = before b ws
-ranWords (some r) b ws = []
+-- what ends a list: the refusal of the word after those, on what they left
+unfoldable pub stop : Machine → List ℕ → Option Refusal
+stop m ws = nextRefusal (played m (before m ws)) (drop (length (before m ws)) ws)
 
-unfoldable pub ran : Bench → List ℕ → List ℕ → List ℕ → List ℕ → List ℕ
-ran b z p za ws = ranWords (firstFailure (runTests b (length z) (length p) (length za) (length ws))) b ws
+-- where it ends: how many words are before, and the refusal; and what those words leave
+abbrev pub endOf : Machine → List ℕ → Ended
+endOf m ws = ended (length (before m ws)) (stop m ws)
 
--- how many words were executed, and the refusal that ended the run
-abbrev pub ended : ℕ → Option Refusal → Ended
-ended n o = record { count = n; outcome = outcome o }
+abbrev pub leftAtEnd : Machine → List ℕ → Machine
+leftAtEnd m ws = played m (before m ws)
 
-unfoldable pub runOf : Bench → List ℕ → List ℕ → List ℕ → List ℕ → Ended
-runOf b z p za ws = ended (length (ran b z p za ws)) (orElse (firstFailure (runTests b (length z) (length p) (length za) (length ws))) (stop b ws))
+-- the words that a run executes, and the refusal that ends it: tests 1 to 6 first
+abbrev pub ranWords : Option Refusal → Machine → List ℕ → List ℕ
+ranWords none m ws = before m ws
+ranWords (some r) m ws = []
 
--- ZA as executing those words singly, in turn, leaves it
-unfoldable pub runZa : Bench → List ℕ → List ℕ → List ℕ → List ℕ → List ℕ
-runZa b z p za ws = played b z p za (ran b z p za ws)
+unfoldable pub ran : Machine → List ℕ → List ℕ
+ran m ws = ranWords (firstFailure (runTests m ws)) m ws
+
+unfoldable pub runOf : Machine → List ℕ → Ended
+runOf m ws = ended (length (ran m ws)) (orElse (firstFailure (runTests m ws)) (stop m ws))
+
+-- what executing those words singly, in turn, leaves
+unfoldable pub runLeft : Machine → List ℕ → Machine
+runLeft m ws = played m (ran m ws)

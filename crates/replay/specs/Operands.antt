@@ -1,35 +1,52 @@
 -- An outer product instruction as operands on a tile (document 01, "Execution").
-use mathlib.Core.Bool.{Bool, true, false, cond}
+use mathlib.Core.Bool.{Bool}
+use mathlib.Core.List.{List}
 use Prim.Native.Nat.{ℕ, _+_}
-use Rattle.isa.specs.Table.{register, isPair}
+use lib.IntN.{ℤ}
+use Rattle.isa.specs.Table.{elementBytes, productsOf}
 use Rattle.isa.specs.declared.Tile.{Tile}
 use Rattle.isa.specs.declared.Vector.{Vector}
 use Rattle.isa.specs.declared.Predicate.{Predicate}
 use Rattle.isa.specs.declared.Operation.{Operation}
 use Rattle.isa.specs.declared.Source.{Source}
+use Rattle.isa.specs.declared.Source.the-variants.{One, Pair}
+use Rattle.outer.specs.Products.{dot}
+use Rattle.outer.specs.declared.Predication.the-variants.{Unpredicated, By}
 use Rattle.outer.specs.declared.Operand.{Operand}
 use Rattle.outer.specs.declared.OuterProduct.{OuterProduct}
 
--- bytes of a tile element, and the number of products that come to it
-abbrev pub elementBytes : Bool → ℕ
-elementBytes wide = cond wide 8 4
-
-abbrev pub products : ℕ
-products = 4
-
 -- a predicated source: one register throughout, governed by its predicate
 abbrev pub governedOperand : Vector → Predicate → Bool → Operand
-governedOperand v p unsigned = record { low = v .0; high = v .0; governed = true; predicate = p .0; unsigned = unsigned }
+governedOperand v p unsigned = record { low = v; high = v; predication = By p; unsigned = unsigned }
 
 -- a quarter-tile source: of a pair, the second register serves the second half; no predicate
+abbrev pub lastOf : Source → Vector
+lastOf (One v) = v
+lastOf (Pair v) = record { 0 = v .0 + 1 }
+
+abbrev pub firstOf : Source → Vector
+firstOf (One v) = v
+firstOf (Pair v) = v
+
 abbrev pub halvesOperand : Source → Bool → Operand
-halvesOperand s unsigned =
-    record { low = register s; high = cond (isPair s) (register s + 1) (register s); governed = false; predicate = 0; unsigned = unsigned }
+halvesOperand s unsigned = record { low = firstOf s; high = lastOf s; predication = Unpredicated; unsigned = unsigned }
 
-abbrev pub predicatedOuter : ℕ → Operation → Tile → Predicate → Predicate → Vector → Vector → OuterProduct
-predicatedOuter vb op tile pn pm zn zm =
-    record { vb = vb; tile = tile .0; first = governedOperand zn pn (op .u0); second = governedOperand zm pm (op .u1); subtract = op .subtract }
+abbrev pub outerProduct : Operation → Tile → Operand → Operand → OuterProduct
+outerProduct op tile first second = record {
+  element = elementBytes op;
+  products = productsOf op;
+  tile = tile;
+  first = first;
+  second = second;
+  subtract = op .subtract;
+}
 
-abbrev pub quarterOuter : ℕ → Operation → Tile → Source → Source → OuterProduct
-quarterOuter vb op tile first second =
-    record { vb = vb; tile = tile .0; first = halvesOperand first (op .u0); second = halvesOperand second (op .u1); subtract = op .subtract }
+abbrev pub predicatedOuter : Operation → Tile → Predicate → Predicate → Vector → Vector → OuterProduct
+predicatedOuter op tile pn pm zn zm = outerProduct op tile (governedOperand zn pn (op .u0)) (governedOperand zm pm (op .u1))
+
+abbrev pub quarterOuter : Operation → Tile → Source → Source → OuterProduct
+quarterOuter op tile first second = outerProduct op tile (halvesOperand first (op .u0)) (halvesOperand second (op .u1))
+
+-- what it adds to each element (row, col) of its tile, on vectors of vb bytes
+abbrev pub sumOf : ℕ → OuterProduct → List ℕ → List ℕ → ℕ → ℕ → ℤ
+sumOf vb o z p = dot (o .element) (o .products) vb o z p

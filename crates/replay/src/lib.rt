@@ -1,4 +1,5 @@
 // Executes instruction words on a bench: one word, a run of a list, a list word by word.
+mod admission;
 mod executor;
 mod lists;
 mod operands;
@@ -15,6 +16,12 @@ pub struct Bench {
     pub sm: bool,
     pub za: bool,
     pub vb: usize,
+}
+
+// The modes that an instruction needs on.
+pub struct Modes {
+    pub streaming: bool,
+    pub za: bool,
 }
 
 // What comes of a word, or of a run after its last word.

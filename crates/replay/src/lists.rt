@@ -1,14 +1,15 @@
 // Lists of words: a run, which stops at the first refused word, and a play, which goes on.
 ghost use mathlib.Core.Path.{_≡_};
 ghost use mathlib.Core.Option.{none};
-ghost use lib.ListN.{length};
 ghost use Rattle.isa.specs.Refusals.{firstFailure};
-ghost use Rattle.replay.specs.Execution.{benchTests};
-ghost use Rattle.replay.specs.Lists.{played, before, stop, ended, runOf, runZa};
+ghost use Rattle.replay.specs.Machine.{on};
+ghost use Rattle.replay.specs.Execution.{machineTests, outcomeNumber};
+ghost use Rattle.replay.specs.Lists.{played, endOf, leftAtEnd, runOf, runLeft};
+ghost use Rattle.replay.specs.Claims.{runCount, runNumber};
 use crate::Bench;
 use crate::Ended;
 use crate::Outcome;
-use crate::executor::check_bench;
+use crate::admission::check_bench;
 use crate::executor::execute;
 use crate::executor::execute_word;
 use isa::Refusal;
@@ -18,8 +19,10 @@ const MOST_WORDS: usize = 4096;
 
 // Executes words in turn and leaves the list at the first that is refused.
 pub fn run(bench: Bench, z: &[u8], p: &[u8], za: &mut [u8], words: &[u32]) -> Ended
-    ensures { λ r. ⌜ r ≡ runOf bench (now (z .entry)) (now (p .entry)) (now (za .entry)) (now (words .entry)) ⌝ }
-    ensures { λ _. ⌜ now (za .exit) ≡ runZa bench (now (z .entry)) (now (p .entry)) (now (za .entry)) (now (words .entry)) ⌝ }
+    ensures { λ r. ⌜ r ≡ runOf (on bench (now (z .entry)) (now (p .entry)) (now (za .entry))) (now (words .entry)) ⌝ }
+    ensures { λ _. ⌜ now (za .exit) ≡ runLeft (on bench (now (z .entry)) (now (p .entry)) (now (za .entry))) (now (words .entry)) .za ⌝ }
+    ensures { λ r. ⌜ r .count ≡ runCount (on bench (now (z .entry)) (now (p .entry)) (now (za .entry))) (now (words .entry)) ⌝ }
+    ensures { λ r. ⌜ outcomeNumber (r .outcome) ≡ runNumber (on bench (now (z .entry)) (now (p .entry)) (now (za .entry))) (now (words .entry)) ⌝ }
 {
     match check_bench(bench, z.len(), p.len(), za.len()) {
         Outcome::Refused(r) => Ended {
@@ -40,9 +43,9 @@ pub fn run(bench: Bench, z: &[u8], p: &[u8], za: &mut [u8], words: &[u32]) -> En
 
 // The words of a run on a bench that passed 1 to 5.
 fn run_words(bench: Bench, z: &[u8], p: &[u8], za: &mut [u8], words: &[u32]) -> Ended
-    requires { ⌜ firstFailure (benchTests bench (length (now z)) (length (now p)) (length (now za))) ≡ none ⌝ }
-    ensures { λ r. ⌜ r ≡ ended (length (before bench (now (words .entry)))) (stop bench (now (words .entry))) ⌝ }
-    ensures { λ _. ⌜ now (za .exit) ≡ played bench (now (z .entry)) (now (p .entry)) (now (za .entry)) (before bench (now (words .entry))) ⌝ }
+    requires { ⌜ firstFailure (machineTests (on bench (now z) (now p) (now za))) ≡ none ⌝ }
+    ensures { λ r. ⌜ r ≡ endOf (on bench (now (z .entry)) (now (p .entry)) (now (za .entry))) (now (words .entry)) ⌝ }
+    ensures { λ _. ⌜ now (za .exit) ≡ leftAtEnd (on bench (now (z .entry)) (now (p .entry)) (now (za .entry))) (now (words .entry)) .za ⌝ }
 {
     let mut i = 0;
     let ended = loop {
@@ -66,7 +69,7 @@ fn run_words(bench: Bench, z: &[u8], p: &[u8], za: &mut [u8], words: &[u32]) -> 
 
 // Executes every word singly; a refused one leaves ZA as it was, and the list goes on.
 pub fn play(bench: Bench, z: &[u8], p: &[u8], za: &mut [u8], words: &[u32])
-    ensures { λ _. ⌜ now (za .exit) ≡ played bench (now (z .entry)) (now (p .entry)) (now (za .entry)) (now (words .entry)) ⌝ }
+    ensures { λ _. ⌜ now (za .exit) ≡ played (on bench (now (z .entry)) (now (p .entry)) (now (za .entry))) (now (words .entry)) .za ⌝ }
 {
     let mut k = 0;
     while k < words.len() {

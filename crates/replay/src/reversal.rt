@@ -1,28 +1,50 @@
 // Add and subtract exchanged in a word.
 ghost use mathlib.Core.Path.{_≡_};
+ghost use mathlib.Core.Bool.{cond, _&&_};
 ghost use mathlib.Core.Option.{some};
-ghost use Rattle.replay.specs.Execution.{isOuter};
-ghost use Rattle.replay.specs.Exchange.{flipS, exchangeOf};
+ghost use Prim.Native.Nat.{_≤_};
+ghost use Rattle.isa.specs.Refusals.{firstFailure};
+ghost use Rattle.isa.specs.Table.{allFlags};
+ghost use Rattle.isa.specs.Answers.{describe};
+ghost use Rattle.replay.specs.Machine.{on};
+ghost use Rattle.replay.specs.Instructions.{hasOpposite};
+ghost use Rattle.replay.specs.Execution.{wordTests, none?};
+ghost use Rattle.replay.specs.Exchange.{flipS, exchanged};
+use crate::Bench;
+use crate::Outcome;
+use crate::admission::admit;
+use crate::admission::check_bench;
 use isa::Decoded;
 use isa::Instruction;
 
-// The word with add and subtract exchanged, where it is an outer product that decode accepts; else the word.
-pub fn exchange(flags: u32, word: u32) -> u32
-    ensures { λ r. ⌜ r ≡ exchangeOf flags word ⌝ }
+// The word with add and subtract exchanged, where it is one that `execute` accepts and that has an opposite; else the word.
+pub fn exchange(bench: Bench, z: &[u8], p: &[u8], za: &[u8], word: u32) -> u32
+    ensures { λ r. ⌜ r ≡ exchanged (on bench (now (z .entry)) (now (p .entry)) (now (za .entry))) word ⌝ }
 {
-    match isa::decode(flags, word) {
+    match check_bench(bench, z.len(), p.len(), za.len()) {
+        Outcome::Refused(_) => word,
+        Outcome::Done => exchange_word(bench, word),
+    }
+}
+
+// The same on a bench that passed 1 to 5.
+fn exchange_word(bench: Bench, word: u32) -> u32
+    requires { ⌜ bench .flags ≤ allFlags ⌝ }
+    ensures { λ r. ⌜ r ≡ cond (none? (firstFailure (wordTests bench word)) && hasOpposite (describe word)) (flipS word) word ⌝ }
+{
+    match admit(bench, word) {
+        Decoded::Refused(_) => word,
         Decoded::Accepted(i) => {
-            if is_outer(i) {
+            if has_opposite(i) {
                 return flip_s(word);
             }
             word
         }
-        Decoded::Refused(_) => word,
     }
 }
 
-fn is_outer(i: Instruction) -> bool
-    ensures { λ r. ⌜ r ≡ isOuter (some i) ⌝ }
+fn has_opposite(i: Instruction) -> bool
+    ensures { λ r. ⌜ r ≡ hasOpposite (some i) ⌝ }
 {
     match i {
         Instruction::Predicated {

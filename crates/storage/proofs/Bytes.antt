@@ -2,16 +2,15 @@
 use mathlib.Core.Path.{_≡_, refl, sym, ap, ap₂, _∙_}
 use mathlib.Core.List.{List, [], _∷_, _++_}
 use Prim.Native.Nat.{ℕ, zero, suc, _+_, _*_, _/_, _%_, _^_, _≤_, _<_}
-use native.Mathlib.Nat.{mod-lt, add-zero, add-suc, suc-add, zero-lt-suc, mul-comm, pow-suc, div-one, mod-one, div-div-eq-div-mul, not-suc-le-zero, le-of-suc-le-suc}
+use native.Mathlib.Nat.{mod-lt, add-zero, zero-add, add-suc, suc-add, zero-lt-suc, not-suc-le-zero, le-of-suc-le-suc}
+use native.Mathlib.Nat.{mul-comm, pow-suc, div-one, mod-one, div-div-eq-div-mul}
 use native.Mathlib.Omega.{arith}
 use lib.Arith.{mod-mul}
 use lib.Dec.{lit<}
-use lib.ListN.{length}
-use lib.ListN.{set, length-set}
+use lib.ListN.{length, set, length-set}
 use lib.Seq.{sets, getD-set-same, getD-set-other}
 use mathlib.Core.Logic.{_≢_, _⊎_, inl, inr}
-use native.Mathlib.Nat.{zero-add}
-use Rattle.storage.specs.Bytes.{at, byteOf, word, bytesOf}
+use Rattle.storage.specs.Bytes.{Store, at, byteOf, word, bytesOf}
 use Rattle.storage.proofs.Modulo.{pow-pos}
 
 pub byte-lt : (k v : ℕ) → byteOf k v < 256
@@ -103,7 +102,24 @@ at-sets-in (v ∷ vs) l p (suc k) h b =
     let e : p + suc k ≡ suc p + k = omega arith in
     rw e (at-sets-in vs (set l p v) (suc p) k (le-of-suc-le-suc h) (rw (length-set l p v) (rw e at b)))
 
+-- ---- two and four bytes, as the code reads and stores them
+
+pub word-of-two : (m : Store) (i j r : ℕ) → r ≡ m i + 256 * (m j + 256 * 0) → j ≡ suc i → r ≡ word 2 m i
+unfolding word
+word-of-two m i j r e a = e ∙ rw a
+
+pub word-of-four : (m : Store) (i j k l r : ℕ) → r ≡ m i + 256 * (m j + 256 * (m k + 256 * (m l + 256 * 0)))
+    → j ≡ suc i → k ≡ suc (suc i) → l ≡ suc (suc (suc i)) → r ≡ word 4 m i
+unfolding word
+word-of-four m i j k l r e a b c = e ∙ rw (a, b, c)
+
+pub sets-of-four : (s : List ℕ) (i j k l v : ℕ) → j ≡ suc i → k ≡ suc (suc i) → l ≡ suc (suc (suc i))
+    → set (set (set (set s i (v % 256)) j (v / 256 % 256)) k (v / 256 / 256 % 256)) l (v / 256 / 256 / 256 % 256) ≡ sets s i (bytesOf 4 v)
+unfolding bytesOf
+sets-of-four s i j k l v a b c = rw (a, b, c)
+
 -- ---- longer numbers, in two parts
+
 pub word-append : (A B : ℕ) (m : ℕ → ℕ) (p : ℕ) → word (A + B) m p ≡ word A m p + 256 ^ A * word B m (p + A)
 unfolding word
 word-append zero B m p = rw (zero-add B, add-zero p) (omega arith)
@@ -118,7 +134,8 @@ bytes-append zero B v = rw (zero-add B, div-one v)
 bytes-append (suc A) B v =
     let x = v % 256 ^ suc A in
     let e : x ≡ v % 256 + 256 * (v / 256 % 256 ^ A) = mod-suc A v in
-    let d : v / 256 ^ suc A ≡ v / 256 / 256 ^ A = ap (λ (n : ℕ). v / n) (pow-suc 256 A ∙ mul-comm (256 ^ A) 256) ∙ sym (div-div-eq-div-mul v 256 (256 ^ A)) in
+    let d : v / 256 ^ suc A ≡ v / 256 / 256 ^ A =
+    ap (λ (n : ℕ). v / n) (pow-suc 256 A ∙ mul-comm (256 ^ A) 256) ∙ sym (div-div-eq-div-mul v 256 (256 ^ A)) in
     let h : x % 256 ≡ v % 256 = omega arith in
     let t : x / 256 ≡ v / 256 % 256 ^ A = omega arith in
     rw (suc-add A B, d, h, t, bytes-append A B (v / 256))

@@ -42,7 +42,7 @@ pub record Only (vb : ℕ) (R : ℕ → Bool) (U : Change) : Type 0 where
   pub only : (m : Store) (p : ℕ) → R (p / vb) ≡ false → U m p ≡ m p
 
 -- two sets of rows with none in common
-pub record Apart (R S : ℕ → Bool) : Type 0 where
+pub record Disjoint (R S : ℕ → Bool) : Type 0 where
   pub apart : (r : ℕ) → (R r ≡ false) ⊎ (S r ≡ false)
 
 pub length-change : (U : Change) (l : List ℕ) → length (change U l) ≡ length l
@@ -63,13 +63,13 @@ change-same U l e = tabulate-ext (length l) (U (at l)) (at l) e ∙ tabulate-at 
 
 -- l is count rows of vb
 pub record Rows (vb count : ℕ) (l : List ℕ) : Type 0 where
-  pub some : 0 < vb
+  pub positive : 0 < vb
   pub whole : length l ≡ count * vb
 
 -- a position in a row of l's is a position of l
 pub in-row : (vb n : ℕ) (l : List ℕ) → Rows vb n l → (p q : ℕ) → q / vb ≡ p / vb → p < length l → q < length l
 in-row vb n l w p q e h =
-    rw (w .whole) (div-lt-iff-lt-mul (w .some) .0 (rw e (div-lt-iff-lt-mul (w .some) .1 (rw (w .whole) at h))))
+    rw (w .whole) (div-lt-iff-lt-mul (w .positive) .0 (rw e (div-lt-iff-lt-mul (w .positive) .1 (rw (w .whole) at h))))
 
 module _ (vb n : ℕ) (U W : Change) where
   pub change-change : (l : List ℕ) → Rows vb n l → Local vb U → change U (change W l) ≡ change (λ m. U (W m)) l
@@ -79,14 +79,14 @@ module _ (vb n : ℕ) (U W : Change) where
       ∙ tabulate-ext (length l) (U (at (change W l))) (U (W (at l)))
       (λ p h. u .local (at (change W l)) (W (at l)) p (λ q e. at-change W l q (in-row vb n l w p q e h)))
 
-  pub commute : (R S : ℕ → Bool) → Local vb U → Local vb W → Only vb R U → Only vb S W → Apart R S → (m : Store) (p : ℕ) → U (W m) p ≡ W (U m) p
+  pub commute : (R S : ℕ → Bool) → Local vb U → Local vb W → Only vb R U → Only vb S W → Disjoint R S → (m : Store) (p : ℕ) → U (W m) p ≡ W (U m) p
   commute R S u v ru sv d m p = go (d .apart (p / vb))
     where
       go : (R (p / vb) ≡ false) ⊎ (S (p / vb) ≡ false) → U (W m) p ≡ W (U m) p
       go (inl e) = ru .only (W m) p e ∙ sym (v .local (U m) m p (λ q r. ru .only m q (ap R r ∙ e)))
       go (inr e) = u .local (W m) m p (λ q r. sv .only m q (ap S r ∙ e)) ∙ sym (sv .only (U m) p e)
 
-module _ (vb n : ℕ) (U W : Change) (R S : ℕ → Bool) (u : Local vb U) (v : Local vb W) (ru : Only vb R U) (sv : Only vb S W) (d : Apart R S) where
+module _ (vb n : ℕ) (U W : Change) (R S : ℕ → Bool) (u : Local vb U) (v : Local vb W) (ru : Only vb R U) (sv : Only vb S W) (d : Disjoint R S) where
   pub change-comm : (l : List ℕ) → Rows vb n l → change U (change W l) ≡ change W (change U l)
   change-comm l w =
       change-change vb n U W l w u ∙ change-ext (λ m. U (W m)) (λ m. W (U m)) l (λ p h. commute vb n U W R S u v ru sv d (at l) p)

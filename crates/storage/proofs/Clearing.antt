@@ -32,7 +32,7 @@ clear-out vb mask za p h e = clear-at vb mask za p h ∙ rw e
 pub clear-good : (vb n mask : ℕ) (za : List ℕ) → Good vb n za → Good vb n (clear vb mask za)
 clear-good vb n mask za g =
     record {
-      rows = record { some = g .rows .some; whole = clear-length vb mask za ∙ g .rows .whole };
+      rows = record { positive = g .rows .positive; whole = clear-length vb mask za ∙ g .rows .whole };
       bytes = λ p. go p (decLt p (length za));
     }
   where
@@ -56,6 +56,7 @@ module _ (vb n mask : ℕ) (s : Sized 8 vb) (t row col : ℕ) (za : List ℕ) (k
       at-row : (j : ℕ) → j < 8 → start 8 vb t row col + j < length za
       at-row = held 8 vb n s t row col za k i
 
-      go : (b : Bool) → eqb (mask / 2 ^ t % 2) 1 ≡ b → word 8 (at (clear vb mask za)) (start 8 vb t row col) ≡ cond b 0 (word 8 (at za) (start 8 vb t row col))
+      go : (b : Bool) → eqb (mask / 2 ^ t % 2) 1 ≡ b
+          → word 8 (at (clear vb mask za)) (start 8 vb t row col) ≡ cond b 0 (word 8 (at za) (start 8 vb t row col))
       go true e = word-ext 8 (at (clear vb mask za)) (λ q. 0) _ 0 (λ j l. clear-in vb mask za _ (at-row j l) (row-masked j l ∙ e))
       go false e = word-ext 8 (at (clear vb mask za)) (at za) _ _ (λ j l. clear-out vb mask za _ (at-row j l) (row-masked j l ∙ e))

@@ -16,7 +16,7 @@ use Rattle.storage.specs.Bytes.{at, word}
 use Rattle.storage.specs.Modulo.{plus}
 use Rattle.storage.specs.Tile.{start, element, inTile, addAt, addTo}
 use Rattle.storage.proofs.Bytes.{word-ext, word-lt}
-use Rattle.storage.proofs.Changes.{Apart, Rows, length-change, at-change, change-ext, change-same, change-change, change-comm, in-row}
+use Rattle.storage.proofs.Changes.{Disjoint, Rows, length-change, at-change, change-ext, change-same, change-change, change-comm, in-row}
 use Rattle.storage.proofs.Tiles.{Sized, _⊕_, nil, negated, add-local, add-only, add-add, add-nil, add-bytes, word-in, row-of}
 
 pub record Good (vb n : ℕ) (za : List ℕ) : Type 0 where
@@ -34,7 +34,7 @@ addTo-at E vb t f za p h = at-change (addAt E vb t f) za p h
 module _ (E vb n : ℕ) (s : Sized E vb) (t : ℕ) where
   pub addTo-good : (f : ℕ → ℕ → ℤ) (za : List ℕ) → Good vb n za → Good vb n (addTo E vb t f za)
   addTo-good f za g = record {
-    rows = record { some = g .rows .some; whole = addTo-length E vb t f za ∙ g .rows .whole };
+    rows = record { positive = g .rows .positive; whole = addTo-length E vb t f za ∙ g .rows .whole };
     bytes = λ p. go p (decLt p (length za));
   }
     where
@@ -42,7 +42,7 @@ module _ (E vb n : ℕ) (s : Sized E vb) (t : ℕ) where
       go p (yes h) = rw (addTo-at E vb t f za p h) (add-bytes E vb s t f (at za) (g .bytes) p)
       go p (no h) = rw (List·getD-eq-default (addTo E vb t f za) 0 {n = p} (omega (arith, addTo-length E vb t f za))) (lit< tt)
 
-  -- law 1
+  -- adding f and then g is adding their sum
   pub addTo-addTo : (f g : ℕ → ℕ → ℤ) (za : List ℕ) → Good vb n za → addTo E vb t g (addTo E vb t f za) ≡ addTo E vb t (f ⊕ g) za
   unfolding addTo
   addTo-addTo f g za k =
@@ -60,15 +60,15 @@ module _ (E vb n : ℕ) (s : Sized E vb) (t : ℕ) where
       ∙ ap (λ (h : ℕ → ℕ → ℤ). addTo E vb t h za) (fun-ext (λ r. fun-ext (λ c. +ℤ-invr (f r c))))
       ∙ addTo-nil za k
 
-  -- law 2, one tile
+  -- two additions to one tile commute
   pub addTo-swap : (f g : ℕ → ℕ → ℤ) (za : List ℕ) → Good vb n za → addTo E vb t f (addTo E vb t g za) ≡ addTo E vb t g (addTo E vb t f za)
   addTo-swap f g za k =
       addTo-addTo g f za k
       ∙ ap (λ (h : ℕ → ℕ → ℤ). addTo E vb t h za) (fun-ext (λ r. fun-ext (λ c. +ℤ-comm (g r c) (f r c))))
       ∙ sym (addTo-addTo f g za k)
 
--- law 2, two tiles with no row in common
-pub addTo-comm : (E F vb n t u : ℕ) (f g : ℕ → ℕ → ℤ) (za : List ℕ) → Sized E vb → Sized F vb → Apart (inTile E t) (inTile F u) → Good vb n za
+-- and so do additions to two tiles with no row in common
+pub addTo-comm : (E F vb n t u : ℕ) (f g : ℕ → ℕ → ℤ) (za : List ℕ) → Sized E vb → Sized F vb → Disjoint (inTile E t) (inTile F u) → Good vb n za
     → addTo E vb t f (addTo F vb u g za) ≡ addTo F vb u g (addTo E vb t f za)
 unfolding addTo
 addTo-comm E F vb n t u f g za s r d k =
@@ -80,9 +80,10 @@ module _ (E vb n : ℕ) (s : Sized E vb) (t : ℕ) (f : ℕ → ℕ → ℤ) whe
   pub addTo-out : (za : List ℕ) (p : ℕ) → p < length za → inTile E t (p / vb) ≡ false → at (addTo E vb t f za) p ≡ at za p
   addTo-out za p h e = addTo-at E vb t f za p h ∙ add-only E vb s t f .only (at za) p e
 
-  -- law 4
+  -- what is left in a row depends on what that row held alone
   pub addTo-row : (za zb : List ℕ) (r : ℕ) → Rows vb n za → length za ≡ length zb
-      → ((p : ℕ) → p < length za → p / vb ≡ r → at za p ≡ at zb p) → (p : ℕ) → p < length za → p / vb ≡ r → at (addTo E vb t f za) p ≡ at (addTo E vb t f zb) p
+      → ((p : ℕ) → p < length za → p / vb ≡ r → at za p ≡ at zb p)
+      → (p : ℕ) → p < length za → p / vb ≡ r → at (addTo E vb t f za) p ≡ at (addTo E vb t f zb) p
   addTo-row za zb r w e h p l i =
       addTo-at E vb t f za p l
       ∙ add-local E vb s t f .local (at za) (at zb) p (λ q j. h q (in-row vb n za w p q j l) (j ∙ i))
@@ -104,7 +105,7 @@ pub record Inside (E vb t rows row col : ℕ) : Type 0 where
 
 module _ (E vb n : ℕ) (s : Sized E vb) (t row col : ℕ) (za : List ℕ) (k : Good vb n za) (i : Inside E vb t n row col) where
   pub cols-is : vb / E ≡ s .cols
-  cols-is = ap (λ (x : ℕ). x / E) (s .whole) ∙ mul-div-cancel (s .cols) (s .some)
+  cols-is = ap (λ (x : ℕ). x / E) (s .whole) ∙ mul-div-cancel (s .cols) (s .positive)
 
   pub col-lt : col < s .cols
   col-lt = rw cols-is at (i .right)
@@ -132,7 +133,7 @@ module _ (E vb n : ℕ) (s : Sized E vb) (t row col : ℕ) (za : List ℕ) (k : 
   pub byte-row : (j : ℕ) → j < E → (start E vb t row col + j) / vb ≡ row * E + t
   byte-row j l = ap (λ (x : ℕ). (x + j) / vb) number ∙ row-of E vb s (num E (s .cols) t row col) j l ∙ zrow
 
-  -- law 3
+  -- an element becomes what it was plus what f gives it
   pub element-add : (f : ℕ → ℕ → ℤ) → element E vb t (addTo E vb t f za) row col ≡ plus E (element E vb t za row col) (f row col)
   unfolding element
   element-add f =
@@ -142,7 +143,7 @@ module _ (E vb n : ℕ) (s : Sized E vb) (t row col : ℕ) (za : List ℕ) (k : 
       ∙ rw (zrow, digits-div row (i .tile), ← number) (ap (λ (x : ℕ). plus E (word E (at za) (start E vb t row col)) (f row x)) num-col)
 
   -- an element of rows that another tile does not have stays
-  pub element-apart : (F u : ℕ) (f : ℕ → ℕ → ℤ) → Sized F vb → Apart (inTile E t) (inTile F u)
+  pub element-apart : (F u : ℕ) (f : ℕ → ℕ → ℤ) → Sized F vb → Disjoint (inTile E t) (inTile F u)
       → element E vb t (addTo F vb u f za) row col ≡ element E vb t za row col
   unfolding element
   element-apart F u f r d =

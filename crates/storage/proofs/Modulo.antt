@@ -2,7 +2,8 @@
 use mathlib.Core.Path.{_≡_, sym, ap, _∙_, subst}
 use mathlib.Core.Logic.{_⊎_, inl, inr}
 use Prim.Native.Nat.{ℕ, zero, suc, _+_, _-_, _%_, _^_, _<_}
-use native.Mathlib.Nat.{one-le-pow, mod-lt, mod-self, zero-mod, mod-mod, mod-eq-of-lt, suc-mod, mod-add-mod, add-mod-mod, eq-or-lt-of-le, add-mod-right, add-assoc, add-zero}
+use native.Mathlib.Nat.{one-le-pow, eq-or-lt-of-le, add-assoc, add-zero}
+use native.Mathlib.Nat.{mod-lt, mod-self, zero-mod, mod-mod, mod-eq-of-lt, suc-mod, mod-add-mod, add-mod-mod, add-mod-right}
 use native.Mathlib.Numerals.{add-one}
 use native.Mathlib.Omega.{arith}
 use lib.IntN.{ℤ, pos, negsuc, sucℤ, predℤ, negℤ, _+ℤ_, +ℤ-idr, +ℤ-one, -ℤ-one, +ℤ-sucℤ, +ℤ-predℤ, suc-pred, ℤ-ind}
@@ -56,7 +57,8 @@ module _ (m : ℕ) (h : 0 < m) where
   pub modZ-add : (a z : ℤ) → modZ m (a +ℤ z) ≡ (modZ m a + modZ m z) % m
   unfolding modZ
   modZ-add a z = ℤ-ind P
-      (ap (modZ m) (+ℤ-idr a) ∙ sym (ap (λ (r : ℕ). (modZ m a + r) % m) (zero-mod m) ∙ ap (λ (r : ℕ). r % m) (add-zero (modZ m a)) ∙ mod-eq-of-lt (modZ-lt a)))
+      (ap (modZ m) (+ℤ-idr a)
+      ∙ sym (ap (λ (r : ℕ). (modZ m a + r) % m) (zero-mod m) ∙ ap (λ (r : ℕ). r % m) (add-zero (modZ m a)) ∙ mod-eq-of-lt (modZ-lt a)))
       (λ n i. subst P (sym (+ℤ-one (pos n))) (up (pos n) i))
       (λ n i. subst P (sym (-ℤ-one (negℤ (pos n)))) (down (negℤ (pos n)) i))
       z

@@ -38,21 +38,21 @@ legal-length vb =
 
 -- elements of 4 or of 8 bytes fill a row
 abbrev pub sized4 : (vb : ℕ) → Length vb → Sized 4 vb
-sized4 vb l = record { some = omega arith; cols = vb / 4; wide = omega arith; whole = omega arith }
+sized4 vb l = record { positive = omega arith; cols = vb / 4; wide = omega arith; whole = omega arith }
 
 abbrev pub sized8 : (vb : ℕ) → Length vb → Sized 8 vb
-sized8 vb l = record { some = omega arith; cols = vb / 8; wide = omega arith; whole = omega arith }
+sized8 vb l = record { positive = omega arith; cols = vb / 8; wide = omega arith; whole = omega arith }
 
 pub za-good : (vb : ℕ) (za : List ℕ) → Length vb → length za ≡ zaSize vb → ((p : ℕ) → at za p < 256) → Good vb vb za
-za-good vb za l e b = record { rows = record { some = omega arith; whole = e }; bytes = b }
+za-good vb za l e b = record { rows = record { positive = omega arith; whole = e }; bytes = b }
 
 -- element (row, col) of a tile, and where it lies
-pub record Place (E vb t row col : ℕ) : Type 0 where
+pub record ElementPlace (E vb t row col : ℕ) : Type 0 where
   pub inside : Inside E vb t vb row col
   pub ends : (row * E + t) * vb + (col * E + E) ≤ vb * vb
   pub small : vb * vb ≤ 65536
 
-pub place : (E vb t row col : ℕ) → Sized E vb → Length vb → t < E → row < vb / E → col < vb / E → Place E vb t row col
+pub place : (E vb t row col : ℕ) → Sized E vb → Length vb → t < E → row < vb / E → col < vb / E → ElementPlace E vb t row col
 place E vb t row col s l ht hr hc =
     let w : vb / E * E ≤ vb = div-mul-le-self vb E in
     let r : row * E + t < vb / E * E = digits-lt hr ht in

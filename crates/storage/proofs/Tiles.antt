@@ -14,11 +14,11 @@ use Rattle.storage.specs.Modulo.{plus}
 use Rattle.storage.specs.Tile.{inTile, addAt}
 use Rattle.storage.proofs.Modulo.{plus-mod, plus-plus, plus-nil}
 use Rattle.storage.proofs.Bytes.{byte-lt, word-byte, word-ext, byte-word, word-lt}
-use Rattle.storage.proofs.Changes.{Local, Only, Apart}
+use Rattle.storage.proofs.Changes.{Local, Only, Disjoint}
 
 -- elements of E bytes fill a row of vb
 pub record Sized (E vb : ℕ) : Type 0 where
-  pub some : 0 < E
+  pub positive : 0 < E
   pub cols : ℕ
   pub wide : 0 < cols
   pub whole : vb ≡ cols * E
@@ -47,8 +47,8 @@ module _ (E vb : ℕ) (s : Sized E vb) where
 
   pub col-of : (e k : ℕ) → k < E → (e * E + k) % vb / E ≡ e % s .cols
   col-of e k h =
-      ap (λ (x : ℕ). (e * E + k) % x / E) (s .whole) ∙ ap (λ (x : ℕ). x / E) (mod-mul (e * E + k) (s .wide) (s .some))
-      ∙ digits-div ((e * E + k) / E % s .cols) (mod-lt (e * E + k) (s .some)) ∙ ap (λ (x : ℕ). x % s .cols) (digits-div e h)
+      ap (λ (x : ℕ). (e * E + k) % x / E) (s .whole) ∙ ap (λ (x : ℕ). x / E) (mod-mul (e * E + k) (s .wide) (s .positive))
+      ∙ digits-div ((e * E + k) / E % s .cols) (mod-lt (e * E + k) (s .positive)) ∙ ap (λ (x : ℕ). x % s .cols) (digits-div e h)
 
   module _ (t : ℕ) (f : ℕ → ℕ → ℤ) (m : Store) where
     add-at : (e k : ℕ) → k < E → addAt E vb t f m (e * E + k) ≡ cond (inTile E t (e / s .cols)) (byteOf k (newAt E (s .cols) f m e)) (m (e * E + k))
@@ -61,19 +61,22 @@ module _ (E vb : ℕ) (s : Sized E vb) where
     pub add-out : (e k : ℕ) → k < E → e / s .cols % E ≢ t → addAt E vb t f m (e * E + k) ≡ m (e * E + k)
     add-out e k h i = add-at e k h ∙ rw (ne-eqb (e / s .cols % E) t i)
 
-    -- law 3, by the element's number
+    -- an element, by its number, becomes what it was plus what f gives it
     pub word-in : (e : ℕ) → e / s .cols % E ≡ t → word E (addAt E vb t f m) (e * E) ≡ newAt E (s .cols) f m e
     word-in e i = word-byte E (newAt E (s .cols) f m e) (e * E) (addAt E vb t f m) (λ k h. add-in e k h i) ∙ plus-mod E _ _
 
   -- what holds at each byte of each element holds at each position
   pub by-element : (P : ℕ → Type 0) → ((e k : ℕ) → k < E → P (e * E + k)) → (p : ℕ) → P p
-  by-element P h p = subst P (div-add-mod' p E) (h (p / E) (p % E) (mod-lt p (s .some)))
+  by-element P h p = subst P (div-add-mod' p E) (h (p / E) (p % E) (mod-lt p (s .positive)))
 
-  -- law 4: what is left at a position depends on its row alone
+  -- what is left at a position depends on its row alone
   pub add-local : (t : ℕ) (f : ℕ → ℕ → ℤ) → Local vb (addAt E vb t f)
-  add-local t f = record { local = λ m n. by-element (λ p. ((q : ℕ) → q / vb ≡ p / vb → m q ≡ n q) → addAt E vb t f m p ≡ addAt E vb t f n p) (at-byte m n) }
+  add-local t f = record { local = λ m n. by-element (Depends m n) (at-byte m n) }
     where
-      at-byte : (m n : Store) (e k : ℕ) → k < E → ((q : ℕ) → q / vb ≡ (e * E + k) / vb → m q ≡ n q) → addAt E vb t f m (e * E + k) ≡ addAt E vb t f n (e * E + k)
+      Depends : Store → Store → ℕ → Type 0
+      Depends m n p = ((q : ℕ) → q / vb ≡ p / vb → m q ≡ n q) → addAt E vb t f m p ≡ addAt E vb t f n p
+
+      at-byte : (m n : Store) (e k : ℕ) → k < E → Depends m n (e * E + k)
       at-byte m n e k h a =
           add-at t f m e k h
           ∙ ap₂ (λ (w b : ℕ). cond (inTile E t (e / s .cols)) (byteOf k (plus E w (f (e / s .cols / E) (e % s .cols)))) b)
@@ -85,11 +88,14 @@ module _ (E vb : ℕ) (s : Sized E vb) where
   unfolding addAt
   add-only t f = record { only = λ m p h. rw h }
 
-  -- law 1
+  -- adding f and then g is adding their sum
   pub add-add : (t : ℕ) (f g : ℕ → ℕ → ℤ) (m : Store) (p : ℕ) → addAt E vb t g (addAt E vb t f m) p ≡ addAt E vb t (f ⊕ g) m p
-  add-add t f g m = by-element (λ p. addAt E vb t g (addAt E vb t f m) p ≡ addAt E vb t (f ⊕ g) m p) (λ e k h. go e k h (ℕ-discrete (e / s .cols % E) t))
+  add-add t f g m = by-element Adds (λ e k h. go e k h (ℕ-discrete (e / s .cols % E) t))
     where
-      go : (e k : ℕ) → k < E → Dec (e / s .cols % E ≡ t) → addAt E vb t g (addAt E vb t f m) (e * E + k) ≡ addAt E vb t (f ⊕ g) m (e * E + k)
+      Adds : ℕ → Type 0
+      Adds p = addAt E vb t g (addAt E vb t f m) p ≡ addAt E vb t (f ⊕ g) m p
+
+      go : (e k : ℕ) → k < E → Dec (e / s .cols % E ≡ t) → Adds (e * E + k)
       go e k h (yes i) =
           add-in t g (addAt E vb t f m) e k h i
           ∙ ap (λ (w : ℕ). byteOf k (plus E w (g (e / s .cols / E) (e % s .cols)))) (word-in t f m e i)
@@ -114,14 +120,14 @@ module _ (E vb : ℕ) (s : Sized E vb) where
 
 -- ---- rows in common
 
-pub apart-same : (E t u : ℕ) → t ≢ u → Apart (inTile E t) (inTile E u)
+pub apart-same : (E t u : ℕ) → t ≢ u → Disjoint (inTile E t) (inTile E u)
 apart-same E t u d = record { apart = λ r. go r (ℕ-discrete (r % E) t) }
   where
     go : (r : ℕ) → Dec (r % E ≡ t) → (inTile E t r ≡ false) ⊎ (inTile E u r ≡ false)
     go r (yes i) = inr (ne-eqb (r % E) u (λ j. d (sym i ∙ j)))
     go r (no i) = inl (ne-eqb (r % E) t i)
 
-pub apart-widths : (t u : ℕ) → u % 4 ≢ t → Apart (inTile 4 t) (inTile 8 u)
+pub apart-widths : (t u : ℕ) → u % 4 ≢ t → Disjoint (inTile 4 t) (inTile 8 u)
 apart-widths t u d = record { apart = λ r. go r (ℕ-discrete (r % 4) t) }
   where
     go : (r : ℕ) → Dec (r % 4 ≡ t) → (inTile 4 t r ≡ false) ⊎ (inTile 8 u r ≡ false)

@@ -43,107 +43,133 @@ num-inj E cols t row col e a b c =
     sym (div-add-mod' e cols) ∙ ap (λ (x : ℕ). x * cols + e % cols) (sym (div-add-mod' (e / cols) E)) ∙ rw (a, b, c)
 
 module _ (E vb n : ℕ) (s : Sized E vb) (t row col : ℕ) (za : List ℕ) (k : Good vb n za) (i : Inside E vb t n row col) (z : ℤ) where
+  -- the element's new value, and ZA with it stored
+  abbrev value : ℕ
+  value = plus E (element E vb t za row col) z
+
   abbrev stored : List ℕ
-  stored = sets za (start E vb t row col) (bytesOf E (plus E (element E vb t za row col) z))
+  stored = sets za (start E vb t row col) (bytesOf E value)
+
+  abbrev one : ℕ → ℕ → ℤ
+  one = single row col z
 
   abbrev here : ℕ
   here = num E (s .cols) t row col
 
+  abbrev Agrees : ℕ → Type 0
+  Agrees p = at stored p ≡ addAt E vb t one (at za) p
+
   at-start : start E vb t row col ≡ here * E
   at-start = number E vb n s t row col za k i
 
-  store-here : (j : ℕ) → j < E → at stored (here * E + j) ≡ addAt E vb t (single row col z) (at za) (here * E + j)
+  store-here : (j : ℕ) → j < E → Agrees (here * E + j)
   unfolding element
   store-here j h =
       ap (λ (x : ℕ). at stored (x + j)) (sym at-start)
-      ∙ at-sets-in (bytesOf E (plus E (element E vb t za row col) z)) za (start E vb t row col) j (rw length-bytesOf h) (held E vb n s t row col za k i j h)
-      ∙ at-bytesOf E (plus E (element E vb t za row col) z) j h
-      ∙ sym (add-in E vb s t (single row col z) (at za) here j h (ap (λ (x : ℕ). x % E) (zrow E vb n s t row col za k i) ∙ digits-mod row (i .tile))
+      ∙ at-sets-in (bytesOf E value) za (start E vb t row col) j (rw length-bytesOf h) (held E vb n s t row col za k i j h)
+      ∙ at-bytesOf E value j h
+      ∙ sym (add-in E vb s t one (at za) here j h (ap (λ (x : ℕ). x % E) (zrow E vb n s t row col za k i) ∙ digits-mod row (i .tile))
       ∙ rw (zrow E vb n s t row col za k i, num-col E vb n s t row col za k i, digits-div row (i .tile), single-here row col z, ← at-start))
 
-  store-there : (e j : ℕ) → j < E → e ≢ here → at stored (e * E + j) ≡ addAt E vb t (single row col z) (at za) (e * E + j)
-  store-there e j h d = at-sets-out (bytesOf E (plus E (element E vb t za row col) z)) za (start E vb t row col) (e * E + j) (rw (length-bytesOf, at-start) (side (decLt e here))) ∙ sym (go (ℕ-discrete (e / s .cols % E) t))
+  store-there : (e j : ℕ) → j < E → e ≢ here → Agrees (e * E + j)
+  store-there e j h d =
+      at-sets-out (bytesOf E value) za (start E vb t row col) (e * E + j) (rw (length-bytesOf, at-start) (side (decLt e here)))
+      ∙ sym (go (ℕ-discrete (e / s .cols % E) t))
     where
       side : Dec (e < here) → (e * E + j < here * E) ⊎ (here * E + E ≤ e * E + j)
       side (yes l) = inl (digits-lt l h)
       side (no l) = inr (let g : here < e = omega arith in omega (arith, mul-le-mul-right E g))
 
-      go : Dec (e / s .cols % E ≡ t) → addAt E vb t (single row col z) (at za) (e * E + j) ≡ at za (e * E + j)
+      go : Dec (e / s .cols % E ≡ t) → addAt E vb t one (at za) (e * E + j) ≡ at za (e * E + j)
       go (yes a) =
-          add-in E vb s t (single row col z) (at za) e j h a
-          ∙ ap (λ (y : ℤ). byteOf j (plus E (word E (at za) (e * E)) y)) (single-other row col z (e / s .cols / E) (e % s .cols) (λ b c. d (num-inj E (s .cols) t row col e a b c)))
+          let nothing : one (e / s .cols / E) (e % s .cols) ≡ pos 0 =
+          single-other row col z (e / s .cols / E) (e % s .cols) (λ b c. d (num-inj E (s .cols) t row col e a b c)) in
+          add-in E vb s t one (at za) e j h a
+          ∙ ap (λ (y : ℤ). byteOf j (plus E (word E (at za) (e * E)) y)) nothing
           ∙ ap (byteOf j) (plus-nil E (word E (at za) (e * E)) (word-lt E (e * E) (at za) (k .bytes)))
           ∙ byte-word E j (e * E) (at za) (k .bytes) h
-      go (no a) = add-out E vb s t (single row col z) (at za) e j h a
+      go (no a) = add-out E vb s t one (at za) e j h a
 
-  store-at : (e j : ℕ) → j < E → at stored (e * E + j) ≡ addAt E vb t (single row col z) (at za) (e * E + j)
+  store-at : (e j : ℕ) → j < E → Agrees (e * E + j)
   store-at e j h = go (ℕ-discrete e here)
     where
-      go : Dec (e ≡ here) → at stored (e * E + j) ≡ addAt E vb t (single row col z) (at za) (e * E + j)
-      go (yes q) = subst (λ (x : ℕ). at stored (x * E + j) ≡ addAt E vb t (single row col z) (at za) (x * E + j)) (sym q) (store-here j h)
+      go : Dec (e ≡ here) → Agrees (e * E + j)
+      go (yes q) = subst (λ (x : ℕ). Agrees (x * E + j)) (sym q) (store-here j h)
       go (no q) = store-there e j h q
 
   -- storing the element's new value is adding to it alone
   pub store-add : sets za (start E vb t row col) (bytesOf E (plus E (element E vb t za row col) z)) ≡ addTo E vb t (single row col z) za
   store-add =
-      ext-getD 0 stored (addTo E vb t (single row col z) za) (length-sets za (start E vb t row col) (bytesOf E (plus E (element E vb t za row col) z)) ∙ sym (addTo-length E vb t (single row col z) za))
-      (λ p l. by-element E vb s (λ p. at stored p ≡ addAt E vb t (single row col z) (at za) p) store-at p
-      ∙ sym (addTo-at E vb t (single row col z) za p (rw length-sets at l)))
+      ext-getD 0 stored (addTo E vb t one za)
+      (length-sets za (start E vb t row col) (bytesOf E value) ∙ sym (addTo-length E vb t one za))
+      (λ p l. by-element E vb s Agrees store-at p ∙ sym (addTo-at E vb t one za p (rw length-sets at l)))
 
 -- only what f gives to elements of the tile counts
 module _ (E vb n : ℕ) (s : Sized E vb) (t : ℕ) (f g : ℕ → ℕ → ℤ) (za : List ℕ) (k : Good vb n za) where
+  abbrev SameAt : ℕ → Type 0
+  SameAt p = p < length za → addAt E vb t f (at za) p ≡ addAt E vb t g (at za) p
+
   pub addTo-cong : ((r c : ℕ) → r * E + t < n → c < s .cols → f r c ≡ g r c) → addTo E vb t f za ≡ addTo E vb t g za
   unfolding addTo
-  addTo-cong a = change-ext (addAt E vb t f) (addAt E vb t g) za (by-element E vb s (λ p. p < length za → addAt E vb t f (at za) p ≡ addAt E vb t g (at za) p) (λ e j h l. go e j h l (ℕ-discrete (e / s .cols % E) t)))
+  addTo-cong a = change-ext (addAt E vb t f) (addAt E vb t g) za (by-element E vb s SameAt (λ e j h. go e j h (ℕ-discrete (e / s .cols % E) t)))
     where
-      go : (e j : ℕ) → j < E → e * E + j < length za → Dec (e / s .cols % E ≡ t) → addAt E vb t f (at za) (e * E + j) ≡ addAt E vb t g (at za) (e * E + j)
-      go e j h l (yes i) =
-          let b : e / s .cols < n = rw (row-of E vb s e j h) at (div-lt-iff-lt-mul (k .rows .some) .1 (rw (k .rows .whole) at l)) in
+      go : (e j : ℕ) → j < E → Dec (e / s .cols % E ≡ t) → SameAt (e * E + j)
+      go e j h (yes i) l =
+          let b : e / s .cols < n = rw (row-of E vb s e j h) at (div-lt-iff-lt-mul (k .rows .positive) .1 (rw (k .rows .whole) at l)) in
           add-in E vb s t f (at za) e j h i
           ∙ ap (λ (z : ℤ). byteOf j (plus E (word E (at za) (e * E)) z))
           (a (e / s .cols / E) (e % s .cols) (omega (arith, div-add-mod' (e / s .cols) E)) (mod-lt e (s .wide)))
           ∙ sym (add-in E vb s t g (at za) e j h i)
-      go e j h l (no i) = add-out E vb s t f (at za) e j h i ∙ sym (add-out E vb s t g (at za) e j h i)
+      go e j h (no i) l = add-out E vb s t f (at za) e j h i ∙ sym (add-out E vb s t g (at za) e j h i)
 
 -- the first c elements, row by row, are done
 abbrev pub upto : ℕ → ℕ → (ℕ → ℕ → ℤ) → ℕ → ℕ → ℤ
 upto cols c f row col = cond (ltb (row * cols + col) c) (f row col) (pos 0)
 
 module _ (E vb n : ℕ) (s : Sized E vb) (t : ℕ) (f : ℕ → ℕ → ℤ) (za : List ℕ) (k : Good vb n za) where
+  abbrev first : ℕ → ℕ → ℕ → ℤ
+  first c = upto (s .cols) c f
+
+  abbrev number-of : ℕ → ℕ → ℕ
+  number-of row col = row * s .cols + col
+
   pub walk-none : addTo E vb t (upto (s .cols) 0 f) za ≡ za
   walk-none =
-      addTo-cong E vb n s t (upto (s .cols) 0 f) nil za k (λ r c a b. rw (le-ltb (r * s .cols + c) 0 (omega arith)))
+      addTo-cong E vb n s t (first 0) nil za k (λ r c a b. rw (le-ltb (number-of r c) 0 (omega arith)))
       ∙ addTo-nil E vb n s t za k
 
   -- one more element
-  one-more : (row col r c : ℕ) → col < s .cols → c < s .cols → (upto (s .cols) (row * s .cols + col) f ⊕ single row col (f row col)) r c ≡ upto (s .cols) (row * s .cols + col + 1) f r c
+  one-more : (row col r c : ℕ) → col < s .cols → c < s .cols → (first (number-of row col) ⊕ single row col (f row col)) r c ≡ first (number-of row col + 1) r c
   one-more row col r c h l = go (decLt x y) (ℕ-discrete x y)
     where
       x : ℕ
-      x = r * s .cols + c
+      x = number-of r c
 
       y : ℕ
-      y = row * s .cols + col
+      y = number-of row col
 
       differ : x ≢ y → single row col (f row col) r c ≡ pos 0
-      differ d = single-other row col (f row col) r c (λ a b. d (ap₂ (λ (i j : ℕ). i * s .cols + j) a b))
+      differ d = single-other row col (f row col) r c (λ a b. d (ap₂ number-of a b))
 
-      go : Dec (x < y) → Dec (x ≡ y) → (upto (s .cols) y f ⊕ single row col (f row col)) r c ≡ upto (s .cols) (y + 1) f r c
+      go : Dec (x < y) → Dec (x ≡ y) → (first y ⊕ single row col (f row col)) r c ≡ first (y + 1) r c
       go (yes a) (yes e) = absurd (let z : x ≡ y = e in omega arith)
       go (yes a) (no d) = rw (lt-ltb x y a, lt-ltb x (y + 1) (omega arith), differ d) (+ℤ-idr (f r c))
       go (no a) (yes e) =
           let i : r ≡ row = sym (digits-div r l) ∙ ap (λ (v : ℕ). v / s .cols) e ∙ digits-div row h in
           let j : c ≡ col = sym (digits-mod r l) ∙ ap (λ (v : ℕ). v % s .cols) e ∙ digits-mod row h in
-          rw (le-ltb x y (omega arith), lt-ltb x (y + 1) (omega arith), eq-eqb r row i, eq-eqb c col j) (+ℤ-idl (f row col) ∙ ap₂ f (sym i) (sym j))
+          rw (le-ltb x y (omega arith), lt-ltb x (y + 1) (omega arith), eq-eqb r row i, eq-eqb c col j)
+          (+ℤ-idl (f row col) ∙ ap₂ f (sym i) (sym j))
       go (no a) (no d) = rw (le-ltb x y (omega arith), le-ltb x (y + 1) (omega arith), differ d) (+ℤ-idl (pos 0))
 
   -- a turn of the walk
   pub walk-one : (row col : ℕ) → col < s .cols
-      → addTo E vb t (single row col (f row col)) (addTo E vb t (upto (s .cols) (row * s .cols + col) f) za) ≡ addTo E vb t (upto (s .cols) (row * s .cols + col + 1) f) za
+      → addTo E vb t (single row col (f row col)) (addTo E vb t (upto (s .cols) (row * s .cols + col) f) za)
+      ≡ addTo E vb t (upto (s .cols) (row * s .cols + col + 1) f) za
   walk-one row col h =
-      addTo-addTo E vb n s t (upto (s .cols) (row * s .cols + col) f) (single row col (f row col)) za k
-      ∙ addTo-cong E vb n s t (upto (s .cols) (row * s .cols + col) f ⊕ single row col (f row col)) (upto (s .cols) (row * s .cols + col + 1) f) za k
+      addTo-addTo E vb n s t (first (number-of row col)) (single row col (f row col)) za k
+      ∙ addTo-cong E vb n s t (first (number-of row col) ⊕ single row col (f row col)) (first (number-of row col + 1)) za k
       (λ r c a b. one-more row col r c h b)
 
-  pub walk-all : (c : ℕ) → ((row col : ℕ) → row * E + t < n → col < s .cols → row * s .cols + col < c) → addTo E vb t (upto (s .cols) c f) za ≡ addTo E vb t f za
-  walk-all c h = addTo-cong E vb n s t (upto (s .cols) c f) f za k (λ row col a b. rw (lt-ltb (row * s .cols + col) c (h row col a b)))
+  pub walk-all : (c : ℕ) → ((row col : ℕ) → row * E + t < n → col < s .cols → row * s .cols + col < c)
+      → addTo E vb t (upto (s .cols) c f) za ≡ addTo E vb t f za
+  walk-all c h = addTo-cong E vb n s t (first c) f za k (λ row col a b. rw (lt-ltb (number-of row col) c (h row col a b)))

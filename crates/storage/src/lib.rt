@@ -1,9 +1,17 @@
-// Little-endian numbers and single bits in lent bytes.
+// Legal vector lengths; little-endian numbers and single bits in lent bytes.
 ghost use mathlib.Core.Path.{_≡_};
 ghost use Prim.Native.Nat.{_+_, _*_, _/_, _%_, _≤_, _<_};
 ghost use lib.ListN.{length};
 ghost use lib.Seq.{sets};
 ghost use Rattle.storage.specs.Bytes.{at, word, bytesOf, bitAt};
+ghost use Rattle.storage.specs.Sizes.{legal};
+
+// Whether a streaming vector may have so many bytes.
+pub fn is_legal(vb: usize) -> bool
+    ensures { λ r. ⌜ r ≡ legal vb ⌝ }
+{
+    (vb == 16) | (vb == 32) | (vb == 64) | (vb == 128) | (vb == 256)
+}
 
 // Each load reads the number whose bytes, lowest first, stand from i on; each store puts its bytes there.
 

@@ -1,11 +1,11 @@
 // Decodes all 2^32 words with every feature on: how many each family accepts, and how many descriptions encode to
 // another word than the one that they came from.
-ghost use Prim.Native.Nat.{ℕ, _+_, _≤_};
-ghost use Rattle.sweep.specs.Tally.{Below};
+use checks::count;
+use checks::one_if;
+use checks::plus;
 use isa::Decoded;
 use isa::Encoded;
 use isa::Instruction;
-use libc::STDOUT_FILENO;
 
 const ALL_FEATURES: u32 = 7;
 
@@ -20,27 +20,18 @@ pub struct Tally {
 
 fn main() {
     let t = sweep();
-    line(b"predicated 32: ", t.predicated32);
-    line(b"predicated 64: ", t.predicated64);
-    line(b"quarter 32: ", t.quarter32);
-    line(b"quarter 64: ", t.quarter64);
-    line(b"zero: ", t.zero);
-    line(
-        b"total: ",
-        t.predicated32 + t.predicated64 + t.quarter32 + t.quarter64 + t.zero,
-    );
-    line(b"encoded to another word: ", t.changed);
+    count(b"predicated 32: ", t.predicated32);
+    count(b"predicated 64: ", t.predicated64);
+    count(b"quarter 32: ", t.quarter32);
+    count(b"quarter 64: ", t.quarter64);
+    count(b"zero: ", t.zero);
+    let predicated = plus(t.predicated32, t.predicated64);
+    let quarter = plus(t.quarter32, t.quarter64);
+    count(b"total: ", plus(plus(predicated, quarter), t.zero));
+    count(b"encoded to another word: ", t.changed);
 }
 
-fn line(name: &[u8], n: u64) {
-    io::write_all(STDOUT_FILENO, name);
-    io::print_decimal(STDOUT_FILENO, n);
-    io::write_all(STDOUT_FILENO, b"\n");
-}
-
-fn sweep() -> Tally
-    ensures { λ r. ⌜ Below 0x100000000 r ⌝ }
-{
+fn sweep() -> Tally {
     let mut t = Tally {
         predicated32: 0,
         predicated64: 0,
@@ -58,34 +49,22 @@ fn sweep() -> Tally
 }
 
 // The tally with one word more.
-fn with_word(t: Tally, word: u32) -> Tally
-    requires { ⌜ Below 0x100000000 t ⌝ }
-    ensures { λ r. ⌜ ((n : ℕ) → Below n t → Below (n + 1) r) ⌝ }
-{
+fn with_word(t: Tally, word: u32) -> Tally {
     match isa::decode(ALL_FEATURES, word) {
         Decoded::Accepted(i) => counted(t, family(i), encodes_to(i, word)),
         Decoded::Refused(_) => t,
     }
 }
 
-fn counted(t: Tally, family: u32, same: bool) -> Tally
-    requires { ⌜ Below 0x100000000 t ⌝ }
-    ensures { λ r. ⌜ ((n : ℕ) → Below n t → Below (n + 1) r) ⌝ }
-{
+fn counted(t: Tally, family: u32, same: bool) -> Tally {
     Tally {
-        predicated32: t.predicated32 + one_if(family == 0),
-        predicated64: t.predicated64 + one_if(family == 1),
-        quarter32: t.quarter32 + one_if(family == 2),
-        quarter64: t.quarter64 + one_if(family == 3),
-        zero: t.zero + one_if(family == 4),
-        changed: t.changed + one_if(!same),
+        predicated32: plus(t.predicated32, one_if(family == 0)),
+        predicated64: plus(t.predicated64, one_if(family == 1)),
+        quarter32: plus(t.quarter32, one_if(family == 2)),
+        quarter64: plus(t.quarter64, one_if(family == 3)),
+        zero: plus(t.zero, one_if(family == 4)),
+        changed: plus(t.changed, one_if(!same)),
     }
-}
-
-fn one_if(b: bool) -> u64
-    ensures { λ r. ⌜ r ≤ 1 ⌝ }
-{
-    if b { 1 } else { 0 }
 }
 
 // The instruction's line of the table, from 0.

@@ -6,13 +6,15 @@ use Prim.Native.Nat.{ℕ, zero, suc, _+_, _*_, _/_, _%_, _^_, _≤_}
 use native.Mathlib.Omega.{arith}
 use lib.Dec.{eqb, ltb}
 use lib.ListN.{length, length-append}
+use Rattle.isa.specs.Table.{elementBytes, sourceBytes}
 use Rattle.isa.specs.declared.Operation.{Operation}
 use Rattle.isa.specs.declared.Source.{Source}
 use Rattle.isa.specs.declared.Source.the-variants.{One, Pair}
 use Rattle.isa.specs.declared.Instruction.{Instruction}
 use Rattle.isa.specs.declared.Instruction.the-variants.{Predicated, Quarter, Zero}
 use Rattle.text.specs.Ascii.{ascii}
-use Rattle.text.specs.Spelling.{Text, decimal, mnemonic, tileSuffix, sourceSuffix, tileName, predicateName, vectorName, sourceName, further, tilesFrom, tilesOfMask, braced, spelling}
+use Rattle.text.specs.Spelling.{Text, decimal, mnemonic, suffix, tileName, predicateName, vectorName, sourceName}
+use Rattle.text.specs.Spelling.{further, tilesFrom, tilesOfMask, braced, spelling}
 use Rattle.text.proofs.Texts.{name-length}
 
 -- a text of at least `least` bytes and at most `most`
@@ -51,24 +53,30 @@ mnemonic-between stem op h =
     (omega arith)
 
 -- a register's name: what leads up to its number, and a suffix of two bytes
-name-between : (lead suffix : Text) (n : ℕ) → length lead ≤ 2 → length suffix ≡ 2 → Between 2 6 (lead ++ decimal n ++ suffix)
-name-between lead suffix n h e = within (joined (joined (literal lead) (decimal-between n)) (literal suffix)) (omega arith) (omega arith)
+name-between : (lead mark : Text) (n : ℕ) → length lead ≤ 2 → length mark ≡ 2 → Between 2 6 (lead ++ decimal n ++ mark)
+name-between lead mark n h e = within (joined (joined (literal lead) (decimal-between n)) (literal mark)) (omega arith) (omega arith)
 
-suffix-length : (b : Bool) (s t : Text) → length s ≡ 2 → length t ≡ 2 → length (cond b s t) ≡ 2
-suffix-length true s t p q = p
-suffix-length false s t p q = q
+suffix-length : (bytes : ℕ) → length (suffix bytes) ≡ 2
+suffix-length bytes = go (eqb bytes 1) (eqb bytes 2) (eqb bytes 4)
+  where
+    go : (a b c : Bool) → length (cond a (ascii ".b") (cond b (ascii ".h") (cond c (ascii ".s") (ascii ".d")))) ≡ 2
+    go true b c = refl
+    go false true c = refl
+    go false false true = refl
+    go false false false = refl
 
-tile-between : (wide : Bool) (n : ℕ) → Between 2 6 (tileName wide (record { 0 = n }))
-tile-between wide n = name-between (ascii "za") (tileSuffix wide) n (omega arith) (suffix-length wide (ascii ".d") (ascii ".s") refl refl)
+tile-between : (bytes n : ℕ) → Between 2 6 (tileName bytes (record { 0 = n }))
+tile-between bytes n = name-between (ascii "za") (suffix bytes) n (omega arith) (suffix-length bytes)
 
-vector-between : (wide : Bool) (n : ℕ) → Between 2 6 (vectorName wide n)
-vector-between wide n = name-between (ascii "z") (sourceSuffix wide) n (omega arith) (suffix-length wide (ascii ".h") (ascii ".b") refl refl)
+vector-between : (bytes n : ℕ) → Between 2 6 (vectorName bytes n)
+vector-between bytes n = name-between (ascii "z") (suffix bytes) n (omega arith) (suffix-length bytes)
 
-source-between : (wide : Bool) (s : Source) → Between 2 17 (sourceName wide s)
-source-between wide (One v) = within (vector-between wide (v .0)) (omega arith) (omega arith)
-source-between wide (Pair v) =
+source-between : (bytes : ℕ) (s : Source) → Between 2 17 (sourceName bytes s)
+source-between bytes (One v) = within (vector-between bytes (v .0)) (omega arith) (omega arith)
+source-between bytes (Pair v) =
+    let name = vector-between bytes in
     within
-    (joined (joined (joined (joined (literal (ascii "{ ")) (vector-between wide (v .0))) (literal (ascii "-"))) (vector-between wide (v .0 + 1))) (literal (ascii " }")))
+    (joined (joined (joined (joined (literal (ascii "{ ")) (name (v .0))) (literal (ascii "-"))) (name (v .0 + 1))) (literal (ascii " }")))
     (omega arith)
     (omega arith)
 
@@ -78,8 +86,10 @@ further-tiles zero i m h = omega arith
 further-tiles (suc k) i m h = go (eqb (m / 2 ^ i % 2) 1) (further-tiles k (i + 1) m (omega arith))
   where
     go : (b : Bool) → length (further (tilesFrom k (i + 1) m)) ≤ 7 * k
-        → length (further (cond b (tileName true (record { 0 = i }) ∷ tilesFrom k (i + 1) m) (tilesFrom k (i + 1) m))) ≤ 7 * suc k
-    go true r = omega (arith, length-append (ascii ", " ++ tileName true (record { 0 = i })) (further (tilesFrom k (i + 1) m)), name-length true i (omega arith))
+        → length (further (cond b (tileName 8 (record { 0 = i }) ∷ tilesFrom k (i + 1) m) (tilesFrom k (i + 1) m))) ≤ 7 * suc k
+    go true r =
+        let l = length-append (ascii ", " ++ tileName 8 (record { 0 = i })) (further (tilesFrom k (i + 1) m)) in
+        omega (arith, l, name-length i (omega arith))
     go false r = omega arith
 
 braced-between : (ts : List Text) → length (further ts) ≤ 56 → Between 2 58 (braced ts)
@@ -97,18 +107,23 @@ predicate-between n = name-between (ascii "p") (ascii "/m") n (omega arith) refl
 more : {a b m n : ℕ} {t rest : Text} → Between a m t → Between b n rest → Between (2 + a + b) (2 + m + n) (ascii ", " ++ t ++ rest)
 more p q = joined (joined (literal (ascii ", ")) p) q
 
+-- a mnemonic, a space and operands
+line : {a b m n : ℕ} {s t : Text} → Between a m s → Between b n t → m + 1 + n ≤ 63 → Between 1 63 (s ++ ascii " " ++ t)
+line p q h = within (joined (joined p (literal (ascii " "))) q) (omega arith) (omega arith)
+
 -- no line is empty, and none is longer than 63 bytes
 pub line-between : (i : Instruction) → Between 1 63 (spelling i)
 unfolding spelling
 line-between (Predicated op tile pn pm zn zm) =
-    let v = vector-between (op .wide) in
+    let v = vector-between (sourceBytes op) in
     let operands = more (predicate-between (pn .0)) (more (predicate-between (pm .0)) (more (v (zn .0)) (more (v (zm .0)) (literal [])))) in
-    within (joined (joined (mnemonic-between (ascii "mop") op (omega arith)) (literal (ascii " "))) (joined (tile-between (op .wide) (tile .0)) operands)) (omega arith) (omega arith)
+    line (mnemonic-between (ascii "mop") op (omega arith)) (joined (tile-between (elementBytes op) (tile .0)) operands) (omega arith)
 line-between (Quarter op tile first second) =
-    let s = source-between (op .wide) in
+    let s = source-between (sourceBytes op) in
     let operands = more (s first) (more (s second) (literal [])) in
-    within (joined (joined (mnemonic-between (ascii "mop4") op (omega arith)) (literal (ascii " "))) (joined (tile-between (op .wide) (tile .0)) operands)) (omega arith) (omega arith)
-line-between (Zero m) = within (joined (literal (ascii "zero ")) (braced-between (tilesOfMask m) (further-tiles 8 0 m (omega arith)))) (omega arith) (omega arith)
+    line (mnemonic-between (ascii "mop4") op (omega arith)) (joined (tile-between (elementBytes op) (tile .0)) operands) (omega arith)
+line-between (Zero m) =
+    within (joined (literal (ascii "zero ")) (braced-between (tilesOfMask m) (further-tiles 8 0 m (omega arith)))) (omega arith) (omega arith)
 
 -- one is 63 bytes long
 pub longest-line : length (spelling (Zero 255)) ≡ 63

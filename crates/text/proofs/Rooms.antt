@@ -35,7 +35,8 @@ pub accepted-text : (flags w : ℕ) (i : Instruction) → decodeOf flags w ≡ A
 unfolding textOf
 accepted-text flags w i p = rw (decode-passed flags w i p .1)
 
-accepted-tests : (flags w n : ℕ) (i : Instruction) → decodeOf flags w ≡ Accepted i → firstFailure (printTests flags w n) ≡ cond (ltb n (length (spelling i))) (some Room) none
+accepted-tests : (flags w n : ℕ) (i : Instruction) → decodeOf flags w ≡ Accepted i
+    → firstFailure (printTests flags w n) ≡ cond (ltb n (length (spelling i))) (some Room) none
 accepted-tests flags w n i p =
     passed-before (decodeTests flags w) (record { fails = ltb n (length (textOf w)); gives = Room } ∷ []) (decode-passed flags w i p .0)
     ∙ rw (accepted-text flags w i p)

@@ -17,7 +17,8 @@ pub heading-text : (m t : Text) → m ++ (ascii " " ++ t) ≡ m ++ ascii " " ++ 
 heading-text m t = sym (append-assoc m (ascii " ") t)
 
 pub pair-text : (d e s : Text)
-    → ascii ", { z" ++ d ++ s ++ (ascii "-z" ++ e ++ s) ++ ascii " }" ≡ ascii ", " ++ (ascii "{ " ++ (ascii "z" ++ d ++ s) ++ ascii "-" ++ (ascii "z" ++ e ++ s) ++ ascii " }")
+    → ascii ", { z" ++ d ++ s ++ (ascii "-z" ++ e ++ s) ++ ascii " }"
+    ≡ ascii ", " ++ (ascii "{ " ++ (ascii "z" ++ d ++ s) ++ ascii "-" ++ (ascii "z" ++ e ++ s) ++ ascii " }")
 pair-text d e s = ap (λ (l : Text). ascii ", { z" ++ l ++ ascii " }") (sym (append-assoc (d ++ s) (ascii "-") (ascii "z" ++ e ++ s)))
 
 pub predicated-text : (h t p q v w : Text)
@@ -51,21 +52,24 @@ tiles-snoc zero i m = ap (λ (n : ℕ). tilesFrom 1 n m) (sym (add-zero i))
 tiles-snoc (suc k) i m = go (eqb (m / 2 ^ i % 2) 1) (tiles-snoc k (i + 1) m ∙ ap (λ (n : ℕ). tilesFrom k (i + 1) m ++ tilesFrom 1 n m) (omega arith))
   where
     go : (b : Bool) → tilesFrom (suc k) (i + 1) m ≡ tilesFrom k (i + 1) m ++ tilesFrom 1 (i + suc k) m
-        → cond b (tileName true (record { 0 = i }) ∷ tilesFrom (suc k) (i + 1) m) (tilesFrom (suc k) (i + 1) m)
-        ≡ cond b (tileName true (record { 0 = i }) ∷ tilesFrom k (i + 1) m) (tilesFrom k (i + 1) m) ++ tilesFrom 1 (i + suc k) m
-    go true e = ap (λ (l : List Text). tileName true (record { 0 = i }) ∷ l) e
+        → cond b (tileName 8 (record { 0 = i }) ∷ tilesFrom (suc k) (i + 1) m) (tilesFrom (suc k) (i + 1) m)
+        ≡ cond b (tileName 8 (record { 0 = i }) ∷ tilesFrom k (i + 1) m) (tilesFrom k (i + 1) m) ++ tilesFrom 1 (i + suc k) m
+    go true e = ap (λ (l : List Text). tileName 8 (record { 0 = i }) ∷ l) e
     go false e = e
 
 -- one tile more
 pub shown-more : (i m at : ℕ) → at ≡ 6 + length (shown (tilesFrom i 0 m)) → shown (tilesFrom i 0 m) ++ listed at m i ≡ shown (tilesFrom (i + 1) 0 m)
 shown-more i m at e =
-    go (m / 2 ^ i % 2) (omega arith) ∙ ap shown (ap (λ (n : ℕ). ts ++ tilesFrom 1 n m) (sym (zero-add i)) ∙ sym (tiles-snoc i 0 m) ∙ ap (λ (n : ℕ). tilesFrom n 0 m) (sym (add-one i)))
+    go (m / 2 ^ i % 2) (omega arith) ∙ ap shown next
   where
     ts : List Text
     ts = tilesFrom i 0 m
 
+    next : ts ++ tilesFrom 1 i m ≡ tilesFrom (i + 1) 0 m
+    next = ap (λ (n : ℕ). ts ++ tilesFrom 1 n m) (sym (zero-add i)) ∙ sym (tiles-snoc i 0 m) ∙ ap (λ (n : ℕ). tilesFrom n 0 m) (sym (add-one i))
+
     name : Text
-    name = tileName true (record { 0 = i })
+    name = tileName 8 (record { 0 = i })
 
     go : (x : ℕ) → x < 2 → shown ts ++ cond (eqb x 0) [] (cond (eqb at 6) (ascii " ") (ascii ", ") ++ name) ≡ shown (ts ++ cond (eqb x 1) (name ∷ []) [])
     go zero h = append-nil (shown ts) ∙ ap shown (sym (append-nil ts))
@@ -81,14 +85,13 @@ pub zero-some : (ts : List Text) (at : ℕ) → at ≡ 6 + length (shown ts) →
 zero-some [] at e h = absurd (h e)
 zero-some (t ∷ ts) at e h = refl
 
-pub name-length : (wide : Bool) (i : ℕ) → i < 10 → length (tileName wide (record { 0 = i })) ≡ 5
-name-length true i h = rw (lt-ltb i 10 h)
-name-length false i h = rw (lt-ltb i 10 h)
+pub name-length : (i : ℕ) → i < 10 → length (tileName 8 (record { 0 = i })) ≡ 5
+name-length i h = rw (lt-ltb i 10 h)
 
 pub listed-length : (at m i : ℕ) → i < 10 → length (listed at m i) ≤ 7
 listed-length at m i h = go (eqb (m / 2 ^ i % 2) 0) (eqb at 6)
   where
-    go : (b f : Bool) → length (cond b [] (cond f (ascii " ") (ascii ", ") ++ tileName true (record { 0 = i }))) ≤ 7
+    go : (b f : Bool) → length (cond b [] (cond f (ascii " ") (ascii ", ") ++ tileName 8 (record { 0 = i }))) ≤ 7
     go true f = omega arith
-    go false true = omega (arith, name-length true i h)
-    go false false = omega (arith, name-length true i h)
+    go false true = omega (arith, name-length i h)
+    go false false = omega (arith, name-length i h)

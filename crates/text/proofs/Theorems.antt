@@ -21,8 +21,8 @@ use Rattle.isa.specs.declared.Decoded.the-variants.{Accepted, Refused as NotDec
 use Rattle.isa.proofs.Answers.{decode-refused}
 use Rattle.text.specs.Spelling.{spelling}
 use Rattle.text.specs.Put.{printedIn, filledWith}
-use Rattle.text.specs.Printing.{textOf, printedNumber, printedLength, roomAfter}
-use Rattle.text.specs.Claims.{numberIn, lengthIn, Holds, Prints}
+use Rattle.text.specs.Printing.{textOf, printedNumber, printedLength, printNumber, printLength, roomAfter}
+use Rattle.text.specs.Claims.{Holds, Prints}
 use Rattle.text.proofs.Rooms.{accepted-text, print-accepted, room-accepted, print-refused, room-refused}
 use Rattle.text.proofs.Lengths.{Between, line-between}
 
@@ -71,7 +71,7 @@ module _ {t room : List ℕ} where
   holds (fits h l) e =
       record {
         whole = refl;
-        some = l .low;
+        least = l .low;
         most = l .high;
         text = take-append-seam t (drop (length t) room);
         rest = drop-append-seam t (drop (length t) room);
@@ -81,7 +81,12 @@ module _ {t room : List ℕ} where
   holds (refused h l) e = absurd (omega arith)
 
 -- every print has one of them
-outcome : (flags w : ℕ) (room : List ℕ) → Outcome (textOf w) room (decodeNumber flags w) (numberIn flags w room) (lengthIn flags w room) (roomAfter flags w room)
+abbrev OutcomeOf : ℕ → ℕ → List ℕ → Type 0
+OutcomeOf flags w room =
+    let n = length room in
+    Outcome (textOf w) room (decodeNumber flags w) (printNumber flags w n) (printLength flags w n) (roomAfter flags w room)
+
+outcome : (flags w : ℕ) (room : List ℕ) → OutcomeOf flags w room
 outcome flags w room = by-answer (decodeOf flags w) refl
   where
     by-room : (i : Instruction) (b : Bool) → ltb (length room) (length (spelling i)) ≡ b → Between 1 63 (spelling i)
@@ -89,8 +94,7 @@ outcome flags w room = by-answer (decodeOf flags w) refl
     by-room i true q l = rw q (short (ltb-true (length room) (length (spelling i)) q))
     by-room i false q l = rw q (fits (ltb-false (length room) (length (spelling i)) q) l)
 
-    by-answer : (a : Decoded) → decodeOf flags w ≡ a
-        → Outcome (textOf w) room (decodeNumber flags w) (numberIn flags w room) (lengthIn flags w room) (roomAfter flags w room)
+    by-answer : (a : Decoded) → decodeOf flags w ≡ a → OutcomeOf flags w room
     by-answer (NotDecoded r) e =
         let (h, l) = decode-number flags w r e in
         rw (print-refused flags w (length room) r e, room-refused flags w room r e, e) (refused h l)

@@ -6,19 +6,12 @@ use Prim.Native.Nat.{ℕ, _≤_, _<_}
 use lib.ListN.{length, take, drop}
 use Rattle.isa.specs.Answers.{decodeNumber}
 use Rattle.text.specs.Spelling.{Text}
-use Rattle.text.specs.Printing.{textOf, printOf, printedNumber, printedLength, roomAfter}
-
--- print's number and length for a room
-abbrev pub numberIn : ℕ → ℕ → List ℕ → ℕ
-numberIn flags w room = printedNumber (printOf flags w (length room))
-
-abbrev pub lengthIn : ℕ → ℕ → List ℕ → ℕ
-lengthIn flags w room = printedLength (printOf flags w (length room))
+use Rattle.text.specs.Printing.{textOf, printNumber, printLength, roomAfter}
 
 -- a text of n bytes is at the start of a room, and the bytes after it are as they were
 pub record Holds (t : Text) (n : ℕ) (before after : List ℕ) : Type 0 where
   pub whole : n ≡ length t
-  pub some : 1 ≤ n
+  pub least : 1 ≤ n
   pub most : n ≤ 63
   pub text : take n after ≡ t
   pub rest : drop n after ≡ drop n before
@@ -26,10 +19,10 @@ pub record Holds (t : Text) (n : ℕ) (before after : List ℕ) : Type 0 where
 
 -- which number print answers, and what it leaves in the room
 pub record Prints (flags w : ℕ) (room : List ℕ) : Type 0 where
-  pub accepts : (numberIn flags w room ≡ 0) ↔ (decodeNumber flags w ≡ 0) × (length (textOf w) ≤ length room)
-  pub gives-1 : (numberIn flags w room ≡ 1) ↔ (decodeNumber flags w ≡ 1)
-  pub gives-7 : (numberIn flags w room ≡ 7) ↔ (decodeNumber flags w ≡ 7)
-  pub gives-8 : (numberIn flags w room ≡ 8) ↔ (decodeNumber flags w ≡ 8)
-  pub gives-12 : (numberIn flags w room ≡ 12) ↔ (decodeNumber flags w ≡ 0) × (length room < length (textOf w))
-  pub refused : (numberIn flags w room ≡ 0 → ⊥) → (roomAfter flags w room ≡ room) × (lengthIn flags w room ≡ 0)
-  pub printed : numberIn flags w room ≡ 0 → Holds (textOf w) (lengthIn flags w room) room (roomAfter flags w room)
+  pub accepts : (printNumber flags w (length room) ≡ 0) ↔ (decodeNumber flags w ≡ 0) × (length (textOf w) ≤ length room)
+  pub gives-1 : (printNumber flags w (length room) ≡ 1) ↔ (decodeNumber flags w ≡ 1)
+  pub gives-7 : (printNumber flags w (length room) ≡ 7) ↔ (decodeNumber flags w ≡ 7)
+  pub gives-8 : (printNumber flags w (length room) ≡ 8) ↔ (decodeNumber flags w ≡ 8)
+  pub gives-12 : (printNumber flags w (length room) ≡ 12) ↔ (decodeNumber flags w ≡ 0) × (length room < length (textOf w))
+  pub refused : (printNumber flags w (length room) ≡ 0 → ⊥) → (roomAfter flags w room ≡ room) × (printLength flags w (length room) ≡ 0)
+  pub printed : printNumber flags w (length room) ≡ 0 → Holds (textOf w) (printLength flags w (length room)) room (roomAfter flags w room)

@@ -49,3 +49,10 @@ printedNumber (Refused r) = number r
 abbrev pub printedLength : Printed → ℕ
 printedLength (Length n) = n
 printedLength (Refused r) = 0
+
+-- and of print's answer, for a room of so many bytes
+abbrev pub printNumber : ℕ → ℕ → ℕ → ℕ
+printNumber flags w room = printedNumber (printOf flags w room)
+
+abbrev pub printLength : ℕ → ℕ → ℕ → ℕ
+printLength flags w room = printedLength (printOf flags w room)

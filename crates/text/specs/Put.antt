@@ -1,6 +1,6 @@
 -- What putting a text on a line leaves, and what print does with the line: the words of its own contracts.
 use mathlib.Core.Path.{_≡_}
-use mathlib.Core.Bool.{true, cond}
+use mathlib.Core.Bool.{cond}
 use mathlib.Core.List.{List, [], _∷_, _++_}
 use Prim.Native.Nat.{ℕ, _+_, _/_, _%_, _^_, _≤_}
 use lib.Dec.{eqb, ltb}
@@ -29,7 +29,7 @@ firstTileAt = length (ascii "zero {")
 
 -- tile i as it stands there, if the mask has it
 abbrev pub listed : ℕ → ℕ → ℕ → Text
-listed at m i = cond (eqb (m / 2 ^ i % 2) 0) [] (cond (eqb at firstTileAt) (ascii " ") (ascii ", ") ++ tileName true (record { 0 = i }))
+listed at m i = cond (eqb (m / 2 ^ i % 2) 0) [] (cond (eqb at firstTileAt) (ascii " ") (ascii ", ") ++ tileName 8 (record { 0 = i }))
 
 -- what print answers and leaves: for a word that passed 1, 7 and 8, its instruction alone decides
 abbrev pub printedIn : Instruction → ℕ → Printed

@@ -1,8 +1,9 @@
 -- How each instruction is spelt (document 01, "Text"): lower case, decimal without leading zeros.
-use mathlib.Core.Bool.{Bool, true, cond}
+use mathlib.Core.Bool.{Bool, cond}
 use mathlib.Core.List.{List, [], _∷_, _++_}
 use Prim.Native.Nat.{ℕ, zero, suc, _+_, _/_, _%_, _^_}
 use lib.Dec.{eqb, ltb}
+use Rattle.isa.specs.Table.{elementBytes, sourceBytes}
 use Rattle.isa.specs.declared.Predicate.{Predicate}
 use Rattle.isa.specs.declared.Tile.{Tile}
 use Rattle.isa.specs.declared.Operation.{Operation}
@@ -32,25 +33,22 @@ addOrSubtract subtract = cond subtract (ascii "s") (ascii "a")
 abbrev pub mnemonic : Text → Operation → Text
 mnemonic stem op = signs (op .u0) (op .u1) ++ stem ++ addOrSubtract (op .subtract)
 
--- ---- operands; a tile's elements are four times as wide as its sources'
-abbrev pub tileSuffix : Bool → Text
-tileSuffix wide = cond wide (ascii ".d") (ascii ".s")
+-- ---- operands, named with the size of their elements, which is 1, 2, 4 or 8 bytes
+abbrev pub suffix : ℕ → Text
+suffix bytes = cond (eqb bytes 1) (ascii ".b") (cond (eqb bytes 2) (ascii ".h") (cond (eqb bytes 4) (ascii ".s") (ascii ".d")))
 
-abbrev pub sourceSuffix : Bool → Text
-sourceSuffix wide = cond wide (ascii ".h") (ascii ".b")
-
-abbrev pub tileName : Bool → Tile → Text
-tileName wide t = ascii "za" ++ decimal (t .0) ++ tileSuffix wide
+abbrev pub tileName : ℕ → Tile → Text
+tileName bytes t = ascii "za" ++ decimal (t .0) ++ suffix bytes
 
 abbrev pub predicateName : Predicate → Text
 predicateName p = ascii "p" ++ decimal (p .0) ++ ascii "/m"
 
-abbrev pub vectorName : Bool → ℕ → Text
-vectorName wide n = ascii "z" ++ decimal n ++ sourceSuffix wide
+abbrev pub vectorName : ℕ → ℕ → Text
+vectorName bytes n = ascii "z" ++ decimal n ++ suffix bytes
 
-abbrev pub sourceName : Bool → Source → Text
-sourceName wide (One v) = vectorName wide (v .0)
-sourceName wide (Pair v) = ascii "{ " ++ vectorName wide (v .0) ++ ascii "-" ++ vectorName wide (v .0 + 1) ++ ascii " }"
+abbrev pub sourceName : ℕ → Source → Text
+sourceName bytes (One v) = vectorName bytes (v .0)
+sourceName bytes (Pair v) = ascii "{ " ++ vectorName bytes (v .0) ++ ascii "-" ++ vectorName bytes (v .0 + 1) ++ ascii " }"
 
 -- texts, each with a comma and a space before it
 abbrev pub further : List Text → Text
@@ -65,7 +63,7 @@ separated (t ∷ ts) = t ++ further ts
 -- ---- ZERO: the 64-bit tiles of the mask, rising
 abbrev pub tilesFrom : ℕ → ℕ → ℕ → List Text
 tilesFrom zero i m = []
-tilesFrom (suc k) i m = cond (eqb (m / 2 ^ i % 2) 1) (tileName true (record { 0 = i }) ∷ tilesFrom k (i + 1) m) (tilesFrom k (i + 1) m)
+tilesFrom (suc k) i m = cond (eqb (m / 2 ^ i % 2) 1) (tileName 8 (record { 0 = i }) ∷ tilesFrom k (i + 1) m) (tilesFrom k (i + 1) m)
 
 abbrev pub tilesOfMask : ℕ → List Text
 tilesOfMask m = tilesFrom 8 0 m
@@ -78,8 +76,10 @@ braced (t ∷ ts) = ascii "{ " ++ separated (t ∷ ts) ++ ascii " }"
 unfoldable pub spelling : Instruction → Text
 spelling (Predicated op tile pn pm zn zm) =
     mnemonic (ascii "mop") op ++ ascii " "
-    ++ separated (tileName (op .wide) tile ∷ predicateName pn ∷ predicateName pm ∷ vectorName (op .wide) (zn .0) ∷ vectorName (op .wide) (zm .0) ∷ [])
+    ++ separated
+    (tileName (elementBytes op) tile ∷ predicateName pn ∷ predicateName pm
+    ∷ vectorName (sourceBytes op) (zn .0) ∷ vectorName (sourceBytes op) (zm .0) ∷ [])
 spelling (Quarter op tile first second) =
     mnemonic (ascii "mop4") op ++ ascii " "
-    ++ separated (tileName (op .wide) tile ∷ sourceName (op .wide) first ∷ sourceName (op .wide) second ∷ [])
+    ++ separated (tileName (elementBytes op) tile ∷ sourceName (sourceBytes op) first ∷ sourceName (sourceBytes op) second ∷ [])
 spelling (Zero m) = ascii "zero " ++ braced (tilesOfMask m)

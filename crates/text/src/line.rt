@@ -4,9 +4,9 @@ ghost use mathlib.Core.Bool.{true};
 ghost use mathlib.Core.List.{[], _∷_, _++_};
 ghost use Prim.Native.Nat.{_+_, _/_, _%_, _≤_, _<_};
 ghost use lib.ListN.{length};
-ghost use Rattle.isa.specs.Table.{inRange, register};
+ghost use Rattle.isa.specs.Table.{inRange, register, elementBytes};
 ghost use Rattle.text.specs.Ascii.{ascii};
-ghost use Rattle.text.specs.Spelling.{spelling, tilesOfMask, decimal, signs, mnemonic, tileName, predicateName, vectorName, tileSuffix, sourceSuffix, sourceName};
+ghost use Rattle.text.specs.Spelling.{spelling, tilesOfMask, decimal, signs, mnemonic, tileName, predicateName, vectorName, suffix, sourceName};
 ghost use Rattle.text.specs.Put.{Put, firstTileAt, listed, shown};
 use isa::Instruction;
 use isa::Operation;
@@ -55,10 +55,9 @@ fn spell_predicated(
     requires { ⌜ (64 ≤ length (now line)) × (inRange (Instruction.Predicated op tile pn pm zn zm) ≡ true) ⌝ }
     ensures { λ r. ⌜ Put 64 (now (line .entry)) 0 (now (line .exit)) r (spelling (Instruction.Predicated op tile pn pm zn zm)) ⌝ }
 {
-    let wide = op.wide;
     let a = put_heading(line, b"mop", op, tile);
     let b = put_predicates(line, a, pn, pm);
-    put_vectors(line, b, wide, zn, zm)
+    put_vectors(line, b, isa::source_bytes(op), zn, zm)
 }
 
 // Mnemonic, tile and two sources, each a register or a pair.
@@ -66,10 +65,10 @@ fn spell_quarter(line: &mut [u8], op: Operation, tile: Tile, first: Source, seco
     requires { ⌜ (64 ≤ length (now line)) × (inRange (Instruction.Quarter op tile first second) ≡ true) ⌝ }
     ensures { λ r. ⌜ Put 64 (now (line .entry)) 0 (now (line .exit)) r (spelling (Instruction.Quarter op tile first second)) ⌝ }
 {
-    let wide = op.wide;
+    let bytes = isa::source_bytes(op);
     let a = put_heading(line, b"mop4", op, tile);
-    let b = put_source(line, a, wide, first);
-    put_source(line, b, wide, second)
+    let b = put_source(line, a, bytes, first);
+    put_source(line, b, bytes, second)
 }
 
 // The tiles between braces; with none, nothing stands between them.
@@ -116,10 +115,11 @@ fn put_listed(line: &mut [u8], at: usize, mask: u8, i: u32) -> usize
 // What both families begin with: the mnemonic and the tile.
 fn put_heading(line: &mut [u8], stem: &[u8], op: Operation, tile: Tile) -> usize
     requires { ⌜ (14 ≤ length (now line)) × (length (now stem) ≤ 4) × (tile .0 < 100) ⌝ }
-    ensures { λ r. ⌜ Put 14 (now (line .entry)) 0 (now (line .exit)) r (mnemonic (now (stem .entry)) op ++ ascii " " ++ tileName (op .wide) tile) ⌝ }
+    ensures { λ r. ⌜ Put 14 (now (line .entry)) 0 (now (line .exit)) r (mnemonic (now (stem .entry)) op ++ ascii " " ++ tileName (elementBytes op) tile) ⌝ }
 {
+    let letter = suffix_letter(isa::element_bytes(op));
     let a = put_mnemonic(line, stem, op);
-    put_name(line, a, b" za", tile.0, b'.', tile_letter(op.wide))
+    put_name(line, a, b" za", tile.0, b'.', letter)
 }
 
 // Which sources are unsigned, the family's stem, and a to add or s to subtract.
@@ -162,50 +162,48 @@ fn put_predicates(line: &mut [u8], at: usize, pn: Predicate, pm: Predicate) -> u
     put_name(line, a, b", p", pm.0, b'/', b'm')
 }
 
-// Both vectors, each behind a comma.
-fn put_vectors(line: &mut [u8], at: usize, wide: bool, zn: Vector, zm: Vector) -> usize
+// Both vectors, each behind a comma; their elements have so many bytes.
+fn put_vectors(line: &mut [u8], at: usize, bytes: u32, zn: Vector, zm: Vector) -> usize
     requires { ⌜ (at + 14 ≤ length (now line)) × (zn .0 < 100) × (zm .0 < 100) ⌝ }
-    ensures { λ r. ⌜ Put 14 (now (line .entry)) at (now (line .exit)) r (ascii ", " ++ vectorName wide (zn .0) ++ (ascii ", " ++ vectorName wide (zm .0))) ⌝ }
+    ensures { λ r. ⌜ Put 14 (now (line .entry)) at (now (line .exit)) r (ascii ", " ++ vectorName bytes (zn .0) ++ (ascii ", " ++ vectorName bytes (zm .0))) ⌝ }
 {
-    let letter = source_letter(wide);
+    let letter = suffix_letter(bytes);
     let a = put_name(line, at, b", z", zn.0, b'.', letter);
     put_name(line, a, b", z", zm.0, b'.', letter)
 }
 
 // A quarter-tile source behind a comma.
-fn put_source(line: &mut [u8], at: usize, wide: bool, s: Source) -> usize
+fn put_source(line: &mut [u8], at: usize, bytes: u32, s: Source) -> usize
     requires { ⌜ (at + 17 ≤ length (now line)) × (register s < 31) ⌝ }
-    ensures { λ r. ⌜ Put 17 (now (line .entry)) at (now (line .exit)) r (ascii ", " ++ sourceName wide s) ⌝ }
+    ensures { λ r. ⌜ Put 17 (now (line .entry)) at (now (line .exit)) r (ascii ", " ++ sourceName bytes s) ⌝ }
 {
     match s {
-        Source::One(v) => put_name(line, at, b", z", v.0, b'.', source_letter(wide)),
-        Source::Pair(v) => put_pair(line, at, wide, v),
+        Source::One(v) => put_name(line, at, b", z", v.0, b'.', suffix_letter(bytes)),
+        Source::Pair(v) => put_pair(line, at, bytes, v),
     }
 }
 
 // A pair by both its registers, in braces.
-fn put_pair(line: &mut [u8], at: usize, wide: bool, v: Vector) -> usize
+fn put_pair(line: &mut [u8], at: usize, bytes: u32, v: Vector) -> usize
     requires { ⌜ (at + 17 ≤ length (now line)) × (v .0 < 31) ⌝ }
-    ensures { λ r. ⌜ Put 17 (now (line .entry)) at (now (line .exit)) r (ascii ", " ++ sourceName wide (Source.Pair v)) ⌝ }
+    ensures { λ r. ⌜ Put 17 (now (line .entry)) at (now (line .exit)) r (ascii ", " ++ sourceName bytes (Source.Pair v)) ⌝ }
 {
-    let letter = source_letter(wide);
+    let letter = suffix_letter(bytes);
     let a = put_name(line, at, b", { z", v.0, b'.', letter);
     let b = put_name(line, a, b"-z", v.0 + 1, b'.', letter);
     put(line, b, b" }")
 }
 
-// The suffix of a tile is a full stop and this letter.
-fn tile_letter(wide: bool) -> u8
-    ensures { λ r. ⌜ tileSuffix wide ≡ ascii "." ++ (r ∷ []) ⌝ }
+// The suffix of a name is a full stop and this letter, by the bytes of an element.
+fn suffix_letter(bytes: u32) -> u8
+    ensures { λ r. ⌜ suffix bytes ≡ ascii "." ++ (r ∷ []) ⌝ }
 {
-    if wide { b'd' } else { b's' }
-}
-
-// The suffix of a source is a full stop and this letter: its elements are a quarter as wide as the tile's.
-fn source_letter(wide: bool) -> u8
-    ensures { λ r. ⌜ sourceSuffix wide ≡ ascii "." ++ (r ∷ []) ⌝ }
-{
-    if wide { b'h' } else { b'b' }
+    match bytes {
+        1 => b'b',
+        2 => b'h',
+        4 => b's',
+        _ => b'd',
+    }
 }
 
 // A register's name: what leads up to its number, the number, and a suffix of a mark and a letter.

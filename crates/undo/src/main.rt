@@ -1,9 +1,14 @@
 // Plays lists of outer products at every vector length, then the reversed lists with add and subtract exchanged, and
 // counts the bytes of ZA that differ from the start. Refused words stand between the others.
 ghost use mathlib.Core.Path.{_≡_};
-ghost use Prim.Native.Nat.{ℕ, _+_, _≤_};
+ghost use Prim.Native.Nat.{_≤_};
 ghost use lib.ListN.{length};
-ghost use Rattle.undo.specs.Tally.{Below};
+use checks::Fill;
+use checks::generate;
+use checks::next;
+use checks::one_if;
+use checks::part;
+use checks::plus;
 use isa::Decoded;
 use libc::STDOUT_FILENO;
 use replay::Bench;
@@ -36,18 +41,13 @@ fn report(vb: usize)
     requires { ⌜ vb ≤ 256 ⌝ }
 {
     let t = tally_at(vb);
-    count(b"VB ", vb as u64);
-    count(b": lists ", t.lists);
-    count(b", words ", t.words);
-    count(b", accepted ", t.accepted);
-    count(b", lists that changed ZA ", t.changed);
-    count(b", bytes that differ in the end ", t.differing);
+    part(b"VB ", vb as u64);
+    part(b": lists ", t.lists);
+    part(b", words ", t.words);
+    part(b", accepted ", t.accepted);
+    part(b", lists that changed ZA ", t.changed);
+    part(b", bytes that differ in the end ", t.differing);
     io::write_all(STDOUT_FILENO, b"\n");
-}
-
-fn count(name: &[u8], n: u64) {
-    io::write_all(STDOUT_FILENO, name);
-    io::print_decimal(STDOUT_FILENO, n);
 }
 
 // Makes the bench of the vector length and room for Z, P, ZA and ZA's start.
@@ -74,9 +74,7 @@ fn tally_at(vb: usize) -> Tally
     )
 }
 
-fn tally_lists(bench: Bench, z: &mut [u8], p: &mut [u8], za: &mut [u8], start: &mut [u8]) -> Tally
-    requires { ⌜ length (now za) ≤ 65536 ⌝ }
-{
+fn tally_lists(bench: Bench, z: &mut [u8], p: &mut [u8], za: &mut [u8], start: &mut [u8]) -> Tally {
     let mut t = Tally {
         lists: 0,
         words: 0,
@@ -93,16 +91,13 @@ fn tally_lists(bench: Bench, z: &mut [u8], p: &mut [u8], za: &mut [u8], start: &
     t
 }
 
-fn added(t: Tally, list: Tally) -> Tally
-    requires { ⌜ Below 0x1000000 t × Below 65536 list ⌝ }
-    ensures { λ r. ⌜ ((n : ℕ) → Below n t → Below (n + 65536) r) ⌝ }
-{
+fn added(t: Tally, list: Tally) -> Tally {
     Tally {
-        lists: t.lists + list.lists,
-        words: t.words + list.words,
-        accepted: t.accepted + list.accepted,
-        changed: t.changed + list.changed,
-        differing: t.differing + list.differing,
+        lists: plus(t.lists, list.lists),
+        words: plus(t.words, list.words),
+        accepted: plus(t.accepted, list.accepted),
+        changed: plus(t.changed, list.changed),
+        differing: plus(t.differing, list.differing),
     }
 }
 
@@ -114,28 +109,23 @@ fn there_and_back(
     p: &mut [u8],
     za: &mut [u8],
     start: &mut [u8],
-) -> Tally
-    requires { ⌜ length (now za) ≤ 65536 ⌝ }
-    ensures { λ r. ⌜ Below 65536 r ⌝ }
-{
-    let after_z = fill(seed, false, z);
-    let after_p = fill(after_z, false, p);
-    let extremes = seed % 2 == 1;
-    let after_za = fill(after_p, extremes, za);
+) -> Tally {
+    let after_z = generate(seed, Fill::Any, z);
+    let after_p = generate(after_z, Fill::Any, p);
+    let fill = if seed % 2 == 1 { Fill::Ends } else { Fill::Any };
+    let after_za = generate(after_p, fill, za);
     // ZA's bytes once more.
-    fill(after_p, extremes, start);
+    generate(after_p, fill, start);
     let mut words = [0u32; LIST_WORDS];
     draw(after_za, &mut words);
     played(bench, z, p, za, start, &words)
 }
 
 fn played(bench: Bench, z: &[u8], p: &[u8], za: &mut [u8], start: &[u8], words: &[u32]) -> Tally
-    requires { ⌜ length (now za) ≤ 65536 ⌝ }
     requires { ⌜ length (now words) ≡ 40 ⌝ }
-    ensures { λ r. ⌜ Below 65536 r ⌝ }
 {
     let mut back = [0u32; LIST_WORDS];
-    undoing(words, &mut back);
+    undoing(bench, z, p, za, words, &mut back);
     replay::play(bench, z, p, za, words);
     let changed = differing(za, start) > 0;
     replay::play(bench, z, p, za, &back);
@@ -149,33 +139,25 @@ fn played(bench: Bench, z: &[u8], p: &[u8], za: &mut [u8], start: &[u8], words: 
 }
 
 // The way back: the list reversed, with add and subtract exchanged.
-fn undoing(words: &[u32], back: &mut [u32])
+fn undoing(bench: Bench, z: &[u8], p: &[u8], za: &[u8], words: &[u32], back: &mut [u32])
     requires { ⌜ length (now words) ≡ length (now back) ⌝ }
 {
     let mut i = 0;
     while i < words.len() {
         let word = words[words.len() - 1 - i];
-        back[i] = replay::exchange(ALL_FEATURES, word);
+        back[i] = replay::exchange(bench, z, p, za, word);
         i += 1;
     }
 }
 
-fn accepted(words: &[u32]) -> u64
-    ensures { λ r. ⌜ r ≤ length (now (words .entry)) ⌝ }
-{
+fn accepted(words: &[u32]) -> u64 {
     let mut n: u64 = 0;
     let mut i = 0;
     while i < words.len() {
-        n += one_if(is_accepted(words[i]));
+        n = plus(n, one_if(is_accepted(words[i])));
         i += 1;
     }
     n
-}
-
-fn one_if(b: bool) -> u64
-    ensures { λ r. ⌜ r ≤ 1 ⌝ }
-{
-    if b { 1 } else { 0 }
 }
 
 // With both modes on, a word is accepted if decode accepts it.
@@ -187,13 +169,11 @@ fn is_accepted(word: u32) -> bool {
 }
 
 // How many of a's bytes b hasn't in the same place.
-fn differing(a: &[u8], b: &[u8]) -> u64
-    ensures { λ r. ⌜ r ≤ length (now (a .entry)) ⌝ }
-{
+fn differing(a: &[u8], b: &[u8]) -> u64 {
     let mut n: u64 = 0;
     let mut i = 0;
     while i < a.len() {
-        n += one_if(!has(b, i, a[i]));
+        n = plus(n, one_if(!has(b, i, a[i])));
         i += 1;
     }
     n
@@ -206,41 +186,16 @@ fn has(bytes: &[u8], i: usize, byte: u8) -> bool {
     bytes[i] == byte
 }
 
-// Fills the bytes from the generator that stands at x, and answers where it stands afterwards.
-fn fill(x: u32, extremes: bool, bytes: &mut [u8]) -> u32 {
-    let mut x = x;
-    let mut i = 0;
-    while i < bytes.len() {
-        x = step(x);
-        bytes[i] = byte_of(x, extremes);
-        i += 1;
-    }
-    x
-}
-
-// With extremes 00 or FF, so that sums often carry out of an element, and the order of the widths counts.
-fn byte_of(x: u32, extremes: bool) -> u8 {
-    let byte = (x / 65536 % 256) as u8;
-    if !extremes {
-        return byte;
-    }
-    if byte < 128 { 0 } else { 255 }
-}
-
 fn draw(x: u32, words: &mut [u32]) {
     let mut x = x;
     let mut i = 0;
     while i < words.len() {
-        let y = step(x);
-        let kind = step(y);
-        x = step(kind);
+        let y = next(x);
+        let kind = next(y);
+        x = next(kind);
         words[i] = word_of(kind / 65536 % 6, joined(y, x));
         i += 1;
     }
-}
-
-fn step(x: u32) -> u32 {
-    ((x as u64 * 1103515245 + 12345) % 0x1_0000_0000) as u32
 }
 
 // The upper halves of both: the generator's lower bits repeat soon.

@@ -1,10 +1,13 @@
 // The bench: room for Z, P and ZA at vector lengths up to 32 bytes, what is set there, and guarded calls of what is tested.
 ghost use mathlib.Core.Path.{_≡_};
 ghost use Prim.Native.Nat.{_<_};
-ghost use Rattle.storage.specs.Sizes.{legal};
-ghost use Rattle.outer.specs.Products.{GoodOperand};
+ghost use Rattle.outer.specs.Products.{Shaped, GoodPredication, GoodOperand};
+use isa::Predicate;
+use isa::Tile;
+use isa::Vector;
 use outer::Operand;
 use outer::OuterProduct;
+use outer::Predication;
 
 // An outer product on a tile. The predicated forms read registers 1 and 2 under predicates 1 and 2, the quarter-tile forms
 // registers 2 and 18 or the pairs that start there.
@@ -14,14 +17,14 @@ pub struct Case {
     pub quarter: bool,
     pub first_pair: bool,
     pub second_pair: bool,
-    pub tile: usize,
+    pub tile: u32,
     pub u0: bool,
     pub u1: bool,
     pub subtract: bool,
 }
 
 // A case of signed sources, added to a tile.
-pub fn predicated(vb: usize, wide: bool, tile: usize) -> Case {
+pub(crate) fn predicated(vb: usize, wide: bool, tile: u32) -> Case {
     Case {
         vb,
         wide,
@@ -35,7 +38,7 @@ pub fn predicated(vb: usize, wide: bool, tile: usize) -> Case {
     }
 }
 
-pub fn quarter(vb: usize, wide: bool, first_pair: bool, second_pair: bool) -> Case {
+pub(crate) fn quarter(vb: usize, wide: bool, first_pair: bool, second_pair: bool) -> Case {
     Case {
         vb,
         wide,
@@ -49,35 +52,34 @@ pub fn quarter(vb: usize, wide: bool, first_pair: bool, second_pair: bool) -> Ca
     }
 }
 
-pub fn with_signs(mut c: Case, u0: bool, u1: bool) -> Case {
+pub(crate) fn with_signs(mut c: Case, u0: bool, u1: bool) -> Case {
     c.u0 = u0;
     c.u1 = u1;
     c
 }
 
-pub fn subtracted(mut c: Case) -> Case {
+pub(crate) fn subtracted(mut c: Case) -> Case {
     c.subtract = true;
     c
 }
 
-fn operand(c: Case, low: usize, high: usize, predicate: usize, unsigned: bool) -> Operand
-    requires { ⌜ (low < 32) × (high < 32) × (predicate < 16) ⌝ }
+fn operand(low: u32, high: u32, predication: Predication, unsigned: bool) -> Operand
+    requires { ⌜ (low < 32) × (high < 32) × GoodPredication predication ⌝ }
     ensures { λ r. ⌜ GoodOperand r ⌝ }
 {
     Operand {
-        low,
-        high,
-        governed: !c.quarter,
-        predicate,
+        low: Vector(low),
+        high: Vector(high),
+        predication,
         unsigned,
     }
 }
 
-pub fn first_register(c: Case) -> usize {
+pub(crate) fn first_register(c: Case) -> usize {
     if c.quarter { 2 } else { 1 }
 }
 
-pub fn second_register(c: Case) -> usize {
+pub(crate) fn second_register(c: Case) -> usize {
     if c.quarter { 18 } else { 2 }
 }
 
@@ -85,32 +87,40 @@ fn first_of(c: Case) -> Operand
     ensures { λ r. ⌜ GoodOperand r ⌝ }
 {
     if !c.quarter {
-        return operand(c, 1, 1, 1, c.u0);
+        return operand(1, 1, Predication::By(Predicate(1)), c.u0);
     }
     if c.first_pair {
-        return operand(c, 2, 3, 0, c.u0);
+        return operand(2, 3, Predication::Unpredicated, c.u0);
     }
-    operand(c, 2, 2, 0, c.u0)
+    operand(2, 2, Predication::Unpredicated, c.u0)
 }
 
 fn second_of(c: Case) -> Operand
     ensures { λ r. ⌜ GoodOperand r ⌝ }
 {
     if !c.quarter {
-        return operand(c, 2, 2, 2, c.u1);
+        return operand(2, 2, Predication::By(Predicate(2)), c.u1);
     }
     if c.second_pair {
-        return operand(c, 18, 19, 0, c.u1);
+        return operand(18, 19, Predication::Unpredicated, c.u1);
     }
-    operand(c, 18, 18, 0, c.u1)
+    operand(18, 18, Predication::Unpredicated, c.u1)
 }
 
-fn outer_product(c: Case) -> OuterProduct
-    ensures { λ r. ⌜ (r .vb ≡ c .vb) × (r .tile ≡ c .tile) × GoodOperand (r .first) × GoodOperand (r .second) ⌝ }
+// A tile element has 8 or 4 bytes, and four products come to it.
+fn element_bytes(wide: bool) -> usize
+    ensures { λ r. ⌜ Shaped r 4 ⌝ }
+{
+    if wide { 8 } else { 4 }
+}
+
+fn outer_product(c: Case, element: usize) -> OuterProduct
+    ensures { λ r. ⌜ (r .element ≡ element) × (r .products ≡ 4) × (r .tile .0 ≡ c .tile) × GoodOperand (r .first) × GoodOperand (r .second) ⌝ }
 {
     OuterProduct {
-        vb: c.vb,
-        tile: c.tile,
+        element,
+        products: 4,
+        tile: Tile(c.tile),
         first: first_of(c),
         second: second_of(c),
         subtract: c.subtract,
@@ -118,7 +128,7 @@ fn outer_product(c: Case) -> OuterProduct
 }
 
 // Updates the part of za that ZA has at the case's vector length, 16 or 32.
-pub fn run(c: Case, z: &[u8], p: &[u8], za: &mut [u8]) {
+pub(crate) fn run(c: Case, z: &[u8], p: &[u8], za: &mut [u8]) {
     if c.vb != 16 {
         return run_guarded(c, z, p, za);
     }
@@ -137,9 +147,7 @@ pub fn run(c: Case, z: &[u8], p: &[u8], za: &mut [u8]) {
 // Does nothing if what an update requires does not hold.
 fn run_guarded(c: Case, z: &[u8], p: &[u8], za: &mut [u8]) {
     let vb = c.vb;
-    let tile = c.tile;
-    let wide = c.wide;
-    if !is_legal(vb) {
+    if !storage::is_legal(vb) {
         return;
     }
     if z.len() != 32 * vb {
@@ -151,20 +159,15 @@ fn run_guarded(c: Case, z: &[u8], p: &[u8], za: &mut [u8]) {
     if za.len() != vb * vb {
         return;
     }
-    let o = outer_product(c);
-    if wide {
-        if tile < 8 {
-            outer::update64(o, z, p, za);
-        }
-    } else {
-        if tile < 4 {
-            outer::update32(o, z, p, za);
-        }
+    let element = element_bytes(c.wide);
+    let o = outer_product(c, element);
+    if (c.tile as usize) < element {
+        outer::update(vb, o, z, p, za);
     }
 }
 
 // Clears rows of the part of za that ZA has at a vector length, 16 or 32.
-pub fn clear(vb: usize, mask: u8, za: &mut [u8]) {
+pub(crate) fn clear(vb: usize, mask: u8, za: &mut [u8]) {
     if vb != 16 {
         return clear_guarded(vb, mask, za);
     }
@@ -176,7 +179,7 @@ pub fn clear(vb: usize, mask: u8, za: &mut [u8]) {
 
 // Does nothing if what clearing requires does not hold.
 fn clear_guarded(vb: usize, mask: u8, za: &mut [u8]) {
-    if !is_legal(vb) {
+    if !storage::is_legal(vb) {
         return;
     }
     if za.len() != vb * vb {
@@ -185,13 +188,7 @@ fn clear_guarded(vb: usize, mask: u8, za: &mut [u8]) {
     outer::clear_tiles(vb, mask, za);
 }
 
-fn is_legal(vb: usize) -> bool
-    ensures { λ r. ⌜ r ≡ legal vb ⌝ }
-{
-    (vb == 16) | (vb == 32) | (vb == 64) | (vb == 128) | (vb == 256)
-}
-
-pub fn set_byte(s: &mut [u8], i: usize, v: u8) {
+pub(crate) fn set_byte(s: &mut [u8], i: usize, v: u8) {
     if i < s.len() {
         s[i] = v;
     }
@@ -204,12 +201,12 @@ pub enum Pattern {
     HalfwordRamp,
 }
 
-pub fn set_row(s: &mut [u8], width: usize, row: usize, even: u8, odd: u8) {
+pub(crate) fn set_row(s: &mut [u8], width: usize, row: usize, even: u8, odd: u8) {
     set_pattern(s, width, row, Pattern::Bytes(even, odd));
 }
 
 // Every element of a register, of 8 or of 16 bits.
-pub fn set_elements(z: &mut [u8], c: Case, register: usize, v: u8) {
+pub(crate) fn set_elements(z: &mut [u8], c: Case, register: usize, v: u8) {
     if c.wide {
         set_row(z, c.vb, register, v, 0);
     } else {
@@ -217,7 +214,7 @@ pub fn set_elements(z: &mut [u8], c: Case, register: usize, v: u8) {
     }
 }
 
-pub fn set_ramp(s: &mut [u8], width: usize, row: usize, halfwords: bool) {
+pub(crate) fn set_ramp(s: &mut [u8], width: usize, row: usize, halfwords: bool) {
     if halfwords {
         set_pattern(s, width, row, Pattern::HalfwordRamp);
     } else {

@@ -3,7 +3,7 @@ use crate::bench;
 use crate::figures;
 use crate::figures::Tally;
 
-pub fn all(t: Tally) -> Tally {
+pub(crate) fn all(t: Tally) -> Tally {
     let mut t = t;
     t = rows_0_and_5(t);
     t = cleared(t, b"zero 00 vb 16, bytes cleared", 16, 0, 0);

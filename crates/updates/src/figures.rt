@@ -8,14 +8,14 @@ pub struct Tally {
     pub agreed: u64,
 }
 
-pub fn none() -> Tally {
+pub(crate) fn none() -> Tally {
     Tally {
         figures: 0,
         agreed: 0,
     }
 }
 
-pub fn report(t: Tally) {
+pub(crate) fn report(t: Tally) {
     count(b"figures: ", t.figures);
     count(b"agreed: ", t.agreed);
 }
@@ -27,7 +27,14 @@ fn count(name: &[u8], n: u64) {
 }
 
 // The tile element of a case that starts at a byte of ZA.
-pub fn element(t: Tally, c: Case, what: &[u8], za: &[u8], byte: usize, expected: u64) -> Tally {
+pub(crate) fn element(
+    t: Tally,
+    c: Case,
+    what: &[u8],
+    za: &[u8],
+    byte: usize,
+    expected: u64,
+) -> Tally {
     write_case(c);
     write(what);
     write(b", byte ");
@@ -41,13 +48,13 @@ pub fn element(t: Tally, c: Case, what: &[u8], za: &[u8], byte: usize, expected:
 }
 
 // How many bytes of ZA a case leaves so or so.
-pub fn bytes(t: Tally, c: Case, what: &[u8], value: u64, expected: u64) -> Tally {
+pub(crate) fn bytes(t: Tally, c: Case, what: &[u8], value: u64, expected: u64) -> Tally {
     write_case(c);
     number(t, what, value, expected)
 }
 
 // A figure without a case.
-pub fn number(t: Tally, what: &[u8], value: u64, expected: u64) -> Tally {
+pub(crate) fn number(t: Tally, what: &[u8], value: u64, expected: u64) -> Tally {
     write(what);
     compared(t, value, 2, expected)
 }
@@ -151,7 +158,7 @@ fn load64(s: &[u8], i: usize) -> u64 {
 }
 
 // Byte i, or 1 past the end.
-pub fn byte_at(s: &[u8], i: usize) -> u64 {
+pub(crate) fn byte_at(s: &[u8], i: usize) -> u64 {
     if i < s.len() { wide(s[i]) } else { 1 }
 }
 
@@ -160,7 +167,7 @@ fn wide(b: u8) -> u64 {
 }
 
 // How many bytes are v.
-pub fn count_of(s: &[u8], v: u8) -> u64 {
+pub(crate) fn count_of(s: &[u8], v: u8) -> u64 {
     let mut n = 0;
     for i in 0..s.len() {
         n = std::num::wrapping_add_u64(n, one_if(s[i] == v));

@@ -5,7 +5,7 @@ use crate::figures;
 use crate::figures::Tally;
 use crate::sources;
 
-pub fn all(t: Tally) -> Tally {
+pub(crate) fn all(t: Tally) -> Tally {
     let mut t = t;
     t = sources::signs32(t, bench::predicated(16, false, 0), 0);
     t = sources::signs32(t, bench::predicated(32, false, 3), 96);

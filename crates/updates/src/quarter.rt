@@ -11,7 +11,7 @@ pub struct Corners(pub usize, pub usize, pub usize);
 // An element of the upper left, the upper right, the lower left and the lower right quarter.
 pub struct Quarters(pub u64, pub u64, pub u64, pub u64);
 
-pub fn all(t: Tally) -> Tally {
+pub(crate) fn all(t: Tally) -> Tally {
     let mut t = t;
     t = sources::signs32(t, bench::quarter(16, false, false, false), 0);
     t = sources::signs32(t, bench::quarter(32, false, false, false), 0);

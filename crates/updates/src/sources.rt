@@ -5,7 +5,7 @@ use crate::figures;
 use crate::figures::Tally;
 
 // All bytes FF: four times (-1)(-1) = 1, (-1)255 or 255(-1) = -FF, 255·255 = FE01; subtracted, the negatives.
-pub fn signs32(t: Tally, c: Case, byte: usize) -> Tally {
+pub(crate) fn signs32(t: Tally, c: Case, byte: usize) -> Tally {
     let mut t = t;
     t = all_ff(t, c, byte, 0x4);
     t = all_ff(t, bench::with_signs(c, false, true), byte, 0xffff_fc04);
@@ -34,7 +34,7 @@ fn one_sign32(t: Tally, c: Case, byte: usize) -> Tally {
 }
 
 // All halfwords FFFF: four times 1, -FFFF or FFFF·FFFF = FFFE0001; subtracted, the negatives.
-pub fn signs64(t: Tally, c: Case, byte: usize) -> Tally {
+pub(crate) fn signs64(t: Tally, c: Case, byte: usize) -> Tally {
     let mut t = t;
     t = all_ff(t, c, byte, 0x4);
     t = all_ff(
@@ -94,7 +94,7 @@ fn ff_by_2(t: Tally, c: Case, byte: usize, expected: u64) -> Tally {
 
 // First source 0, 1, 2, .., second ones: 4·row + k over k is 16·row + 6; the other way round 16·col + 6; both ramps
 // (4·row + k)(4·col + k) over k: 64·row·col + 24·row + 24·col + 14.
-pub fn ramp(t: Tally, c: Case, byte: usize, first: u64, second: u64, both: u64) -> Tally {
+pub(crate) fn ramp(t: Tally, c: Case, byte: usize, first: u64, second: u64, both: u64) -> Tally {
     let mut t = t;
     let mut z = [0u8; 1024];
     let wide = c.wide;
@@ -111,7 +111,7 @@ pub fn ramp(t: Tally, c: Case, byte: usize, first: u64, second: u64, both: u64) 
 }
 
 // A tile element after a run on zeros, all elements active.
-pub fn after(t: Tally, c: Case, what: &[u8], z: &[u8], byte: usize, expected: u64) -> Tally {
+pub(crate) fn after(t: Tally, c: Case, what: &[u8], z: &[u8], byte: usize, expected: u64) -> Tally {
     let mut za = [0u8; 1024];
     bench::run(c, z, &[0xff; 64], &mut za);
     figures::element(t, c, what, &za, byte, expected)

@@ -1,9 +1,8 @@
 // Compares print, with every feature on, with a list on standard input. A line of the list is a word in eight hex
 // digits, a space, and its text, or - if print must refuse it as unlisted; a line that starts with # is a comment.
-ghost use mathlib.Core.Path.{_≡_};
-ghost use Prim.Native.Nat.{ℕ, _+_, _≤_};
-ghost use lib.ListN.{length};
-ghost use Rattle.words.specs.Tally.{Below};
+use checks::Number;
+use checks::Outcome;
+use checks::Tally;
 use libc::STDIN_FILENO;
 use libc::STDOUT_FILENO;
 use text::Printed;
@@ -18,63 +17,20 @@ const ROOM_TOO_SHORT: u32 = 12;
 // What a room holds before it is printed into.
 const FILL: u8 = 0x5A;
 
-// The list and each text must be shorter than these.
-const LIST_ROOM: usize = 1048576;
-
+// Each text must be shorter than this.
 const TEXT_ROOM: usize = 64;
 
 // Where a line's text starts.
 const TEXT_AT: usize = 9;
 
-// How many lines have a word, at how many of these print agrees, and how many lines are malformed: neither a word with
-// its text nor a comment.
-pub struct Tally {
-    pub lines: u64,
-    pub agreed: u64,
-    pub malformed: u64,
-}
-
-pub enum Outcome {
-    Agreed,
-    Disagreed,
-    Malformed,
-    Comment,
-}
-
-pub enum Word {
-    Value(u32),
-    Malformed,
-}
-
 fn main() {
-    let mut list = list_room();
+    let mut list = checks::input_room();
     let n = io::read_full(STDIN_FILENO, &mut list);
-    if n == LIST_ROOM {
+    if n == checks::INPUT_ROOM {
         io::write_all(STDOUT_FILENO, b"input too long\n");
         return;
     }
-    report(compare(&list[..n]));
-}
-
-// Apart from main, so that proofs take the array by its length alone: it is too long to compute with.
-fn list_room() -> [u8; LIST_ROOM]
-    ensures { λ r. ⌜ 1048576 ≡ length r ⌝ }
-{
-    [0; LIST_ROOM]
-}
-
-fn report(t: Tally) {
-    count(b"lines: ", t.lines);
-    count(b"agreed: ", t.agreed);
-    if t.malformed > 0 {
-        count(b"malformed: ", t.malformed);
-    }
-}
-
-fn count(name: &[u8], n: u64) {
-    io::write_all(STDOUT_FILENO, name);
-    io::print_decimal(STDOUT_FILENO, n);
-    io::write_all(STDOUT_FILENO, b"\n");
+    checks::report(b"lines: ", compare(&list[..n]));
 }
 
 // A last line with no line feed is malformed: the list may have been cut there.
@@ -86,54 +42,14 @@ fn compare(list: &[u8]) -> Tally {
     };
     let mut at = 0;
     while at < list.len() {
-        let end = line_end(list, at);
+        let end = checks::field_end(list, at, b'\n');
         if end == list.len() {
-            return counted(t, Outcome::Malformed);
+            return checks::counted(t, Outcome::Malformed);
         }
-        t = counted(t, line_outcome(&list[at..end]));
+        t = checks::counted(t, line_outcome(&list[at..end]));
         at = end + 1;
     }
     t
-}
-
-// Where the line that starts at `at` has its line feed, or the end of the list if it has none.
-fn line_end(list: &[u8], at: usize) -> usize
-    requires { ⌜ at ≤ length (now list) ⌝ }
-    ensures { λ r. ⌜ (at ≤ r) × (r ≤ length (now (list .entry))) ⌝ }
-{
-    let mut end = at;
-    while end < list.len() {
-        if list[end] == b'\n' {
-            return end;
-        }
-        end += 1;
-    }
-    end
-}
-
-// The tally with one line more.
-fn counted(t: Tally, outcome: Outcome) -> Tally
-    requires { ⌜ Below 0xfffffffffffffffe t ⌝ }
-    ensures { λ r. ⌜ ((n : ℕ) → Below n t → Below (n + 1) r) ⌝ }
-{
-    match outcome {
-        Outcome::Agreed => Tally {
-            lines: t.lines + 1,
-            agreed: t.agreed + 1,
-            malformed: t.malformed,
-        },
-        Outcome::Disagreed => Tally {
-            lines: t.lines + 1,
-            agreed: t.agreed,
-            malformed: t.malformed,
-        },
-        Outcome::Malformed => Tally {
-            lines: t.lines,
-            agreed: t.agreed,
-            malformed: t.malformed + 1,
-        },
-        Outcome::Comment => t,
-    }
 }
 
 // What comes of a line, which is lent without its line feed.
@@ -150,39 +66,12 @@ fn line_outcome(line: &[u8]) -> Outcome {
     if line.len() - TEXT_AT >= TEXT_ROOM {
         return Outcome::Malformed;
     }
-    match word_of(line) {
-        Word::Value(w) => word_outcome(w, &line[TEXT_AT..]),
-        Word::Malformed => Outcome::Malformed,
+    if line[TEXT_AT - 1] != b' ' {
+        return Outcome::Malformed;
     }
-}
-
-// The word of a line that starts with eight hex digits and a space.
-fn word_of(line: &[u8]) -> Word
-    requires { ⌜ 9 ≤ length (now line) ⌝ }
-{
-    if line[8] != b' ' {
-        return Word::Malformed;
-    }
-    let mut w: u32 = 0;
-    let mut i = 0;
-    while i < 8 {
-        let digit = digit_of(line[i]);
-        if digit > 15 {
-            return Word::Malformed;
-        }
-        w = (w << 4) | digit;
-        i += 1;
-    }
-    Word::Value(w)
-}
-
-// A hex digit's value, or 16 for a byte that is none.
-fn digit_of(byte: u8) -> u32 {
-    match byte {
-        b'0'..=b'9' => (byte - b'0') as u32,
-        b'a'..=b'f' => (byte - b'a') as u32 + 10,
-        b'A'..=b'F' => (byte - b'A') as u32 + 10,
-        _ => 16,
+    match checks::hexadecimal_of(&line[..TEXT_AT - 1]) {
+        Number::Value(w) => word_outcome(w, &line[TEXT_AT..]),
+        Number::Malformed => Outcome::Malformed,
     }
 }
 

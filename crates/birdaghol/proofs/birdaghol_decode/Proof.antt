@@ -6,10 +6,10 @@ use Rattle.birdaghol.proofs.birdaghol_decode.Statement.{statement}
 use Rattle.birdaghol.proofs.birdaghol_decode.Tie as tie
 
 returns : tie.Need-returns
-returns c = sym (ap decodedNumber (sym (c .before .before .decode .ensures) ∙ c .enum-told .given .1))
+returns c = sym (ap decodedNumber (sym (c .before .before .decode .ensures .0) ∙ c .enum-told .given .1))
 
 returns-2 : tie.Need-returns-2
-returns-2 c = c .number .ensures ∙ sym (ap decodedNumber (sym (c .before .before .before .before .decode .ensures) ∙ c .before .before .r .given .1))
+returns-2 c = c .number .ensures ∙ sym (ap decodedNumber (sym (c .before .before .before .before .decode .ensures .0) ∙ c .before .before .r .given .1))
 
 pub birdaghol-decode-spec : {M : Type 1} → statement M
 birdaghol-decode-spec =

@@ -5,7 +5,10 @@ use Rattle.birdaghol.proofs.birdaghol_encode_quarter.Statement.{stateme
 use Rattle.birdaghol.proofs.birdaghol_encode_quarter.Tie as tie
 
 returns : tie.Need-returns
-returns c = rw (c .before .source-of2 .ensures, c .before .before .source-of .ensures, c .before .before .before .operation-of .ensures) at (c .encode-sized .ensures)
+returns c =
+    let s = c .before in
+    let o = s .before .before in
+    rw (s .source-of2 .ensures, s .before .source-of .ensures, o .operation-of .ensures) at (c .encode-sized .ensures)
 
 pub birdaghol-encode-quarter-spec : {M : Type 1} → statement M
 birdaghol-encode-quarter-spec =

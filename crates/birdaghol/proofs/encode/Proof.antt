@@ -7,10 +7,12 @@ use Rattle.birdaghol.proofs.encode.Statement.{statement}
 use Rattle.birdaghol.proofs.encode.Tie as tie
 
 returns : tie.Need-returns
-returns c = value-alone _ ∙ sym (ap packedEncoded (sym (c .before .before .before .encode .ensures) ∙ c .before .w .given .1))
+returns c = value-alone _ ∙ sym (ap packedEncoded (sym (c .before .before .before .encode .ensures .0) ∙ c .before .w .given .1))
 
 returns-2 : tie.Need-returns-2
-returns-2 c = c .number .ensures ∙ refusal-alone _ ∙ sym (ap packedEncoded (sym (c .before .before .before .before .encode .ensures) ∙ c .before .before .r .given .1))
+returns-2 c =
+    let r = c .before .before in
+    c .number .ensures ∙ refusal-alone _ ∙ sym (ap packedEncoded (sym (r .before .before .encode .ensures .0) ∙ r .r .given .1))
 
 pub encode-spec : {M : Type 1} → statement M
 encode-spec =

@@ -1,21 +1,13 @@
 -- `storage::store_u32` meets its contract. Assumes nothing.
-use mathlib.Core.Path.{_≡_}
-use Prim.Native.Nat.{suc, _+_}
 use lib.ListN.{length-set}
-use Rattle.storage.specs.Bytes.{bytesOf}
+use Rattle.storage.proofs.Bytes.{sets-of-four}
 use borrow.Author.Needs.{needs}
 use native.Mathlib.Omega.{arith}
 use Rattle.storage.proofs.store_u32.Statement.{statement}
 use Rattle.storage.proofs.store_u32.Tie as tie
 
 returns : tie.Need-returns
-unfolding bytesOf
-returns c =
-    let i = c .args .i in
-    let e : i + 1 ≡ suc i = omega arith in
-    let f : i + 2 ≡ suc (suc i) = omega arith in
-    let g : i + 3 ≡ suc (suc (suc i)) = omega arith in
-    rw (e, f, g)
+returns c = sets-of-four (c .args .s .now) (c .args .i) _ _ _ (c .args .v) (omega arith) (omega arith) (omega arith)
 
 pub store-u32-spec : {M : Type 1} → statement M
 store-u32-spec =

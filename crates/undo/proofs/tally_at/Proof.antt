@@ -3,7 +3,6 @@ use mathlib.Core.Path.{sym}
 use Prim.Native.Nat.{ℕ, _*_, _≤_}
 use native.Mathlib.Nat.{mul-le-mul}
 use native.Mathlib.Omega.{arith}
-use lib.ListN.{length-take}
 use borrow.Table.Elements.{length-take-le}
 use borrow.Author.Needs.{needs}
 use Rattle.undo.proofs.tally_at.Statement.{statement}
@@ -33,9 +32,6 @@ array-borrow-prefix-start c = omega (arith, square _ (c .before .before .before 
 slice-aggregate-tally-lists-4 : tie.Need-slice-aggregate-tally-lists-4
 slice-aggregate-tally-lists-4 c = sym (length-take-le _ _ (omega (arith, square _ (c .before .before .before .before .before .before .before .before .pre))))
 
-tally-lists-requires : tie.Need-tally-lists-requires
-tally-lists-requires c κs = simp length-take (omega (arith, square _ (c .before .before .before .before .before .before .before .before .pre)))
-
 pub tally-at-spec : {M : Type 1} → statement M
 tally-at-spec =
     tie.close
@@ -55,5 +51,5 @@ tally-at-spec =
     slice-aggregate-tally-lists-3
     array-borrow-prefix-start
     slice-aggregate-tally-lists-4
-    tally-lists-requires
+    (λ c κs. search needs)
     (λ c. search needs))

@@ -8,10 +8,10 @@ use Rattle.undo.proofs.undoing.Statement.{statement}
 use Rattle.undo.proofs.undoing.Tie as tie
 
 abbrev Inv-loop : tie.InvT-loop
-Inv-loop words back₀ i₀ back i = (i ≤ length words) × (length back ≡ length back₀)
+Inv-loop bench z p za words back₀ i₀ back i = (i ≤ length words) × (length back ≡ length back₀)
 
 abbrev μ-loop : tie.MeasureT-loop
-μ-loop words back₀ i₀ back i = length words - i
+μ-loop bench z p za words back₀ i₀ back i = length words - i
 
 loop-again : tie.Need-loop-again Inv-loop μ-loop
 loop-again c = (omega arith, simp length-set (omega arith))

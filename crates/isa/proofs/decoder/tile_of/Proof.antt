@@ -1,12 +1,13 @@
--- `isa::decoder::tile_of` meets its contract: each branch is the case that its test decides. Assumes nothing.
+-- `isa::decoder::tile_of` meets its contract, by its callee's; no element is without bytes. Assumes nothing.
+use native.Mathlib.Omega.{arith}
+use Rattle.isa.proofs.Lines.{element-between}
 use Rattle.isa.proofs.decoder.tile_of.Statement.{statement}
 use Rattle.isa.proofs.decoder.tile_of.Tie as tie
 
-returns : tie.Need-returns
-returns c = rw (c .if1 .taken)
-
-returns-2 : tie.Need-returns-2
-returns-2 c = rw (c .if1 .left)
-
 pub tile-of-spec : {M : Type 1} → statement M
-tile-of-spec = tie.close (tie.spec returns returns-2)
+tile-of-spec =
+    tie.close
+    (tie.spec
+    (λ c κs. tt)
+    (λ c. omega (arith, element-between (c .before .args .op)))
+    (λ c. rw (c .element-bytes .ensures)))

@@ -9,7 +9,8 @@ use Rattle.isa.proofs.encoder.quarter_word.Statement.{statement}
 use Rattle.isa.proofs.encoder.quarter_word.Tie as tie
 
 fit : (c : tie.Start)
-    → (let a = c .args in Fit quarter64 (fieldsFrom (Quarter (a .op) (a .tile) (a .first) (a .second))) × (register (a .first) ≤ 14) × (16 ≤ register (a .second)) × (register (a .second) ≤ 30))
+    → (let a = c .args in Fit quarter64 (fieldsFrom (Quarter (a .op) (a .tile) (a .first) (a .second)))
+    × (register (a .first) ≤ 14) × (16 ≤ register (a .second)) × (register (a .second) ≤ 30))
 fit c = let a = c .args in quarter-range (a .op) (a .tile) (a .first) (a .second) (c .pre)
 
 pub quarter-word-spec : {M : Type 1} → statement M

@@ -43,7 +43,8 @@ slice-write-za c = omega (arith, ends (c .before .before .before), c .before .lo
 
 loop-again : tie.Need-loop-again Inv-loop μ-loop
 loop-again c =
-    (omega arith, begun-more _ _ _ _ (c .before .loop .inv .1) (omega (arith, ends (c .before .before .before), c .before .loop .inv .1 .long, c .before .before .before .pre .1)))
+    let begun = c .before .loop .inv .1 in
+    (omega arith, begun-more _ _ _ _ begun (omega (arith, ends (c .before .before .before), begun .long, c .before .before .before .pre .1)))
 
 returns-2 : tie.Need-returns-2 Inv-loop μ-loop
 returns-2 c =

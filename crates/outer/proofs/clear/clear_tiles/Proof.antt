@@ -31,7 +31,8 @@ returns c =
     let s = c .before .before .before in
     let l = c .before .loop in
     let e : l .row ≡ s .args .vb = omega arith in
-    rows-all (s .args .vb) (s .args .mask) (s .args .za .now) _ (omega (arith, legal-length (s .args .vb) (s .pre .0))) (s .pre .1) (rw e at (l .inv .1))
+    rows-all (s .args .vb) (s .args .mask) (s .args .za .now) _
+    (omega (arith, legal-length (s .args .vb) (s .pre .0))) (s .pre .1) (rw e at (l .inv .1))
 
 pub clear-tiles-spec : {M : Type 1} → statement M
 clear-tiles-spec =

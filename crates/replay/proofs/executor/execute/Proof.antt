@@ -1,28 +1,39 @@
 -- `replay::executor::execute` meets its contract: the bench refuses, or the word is left to its tests. Assumes nothing.
-use mathlib.Core.Path.{_∙_, sym, ap}
-use mathlib.Core.Option.{some}
-use Rattle.replay.specs.Execution.{outcome}
-use Rattle.replay.proofs.Tests.{outcome-done, outcome-refused}
-use Rattle.replay.proofs.Execution.{refused-by-bench, refused-by-word, za-after}
+use mathlib.Core.Path.{_≡_, _∙_, sym, ap}
+use mathlib.Core.Option.{none, some}
 use borrow.Author.Needs.{needs}
+use Rattle.isa.specs.Refusals.{firstFailure}
+use Rattle.replay.specs.Machine.{Machine, on}
+use Rattle.replay.specs.Execution.{machineTests, outcome, outcomeNumber}
+use Rattle.replay.proofs.Tests.{outcome-done, outcome-refused}
+use Rattle.replay.proofs.Execution.{refused-by-bench, refused-by-word, after-by}
 use Rattle.replay.proofs.executor.execute.Statement.{statement}
 use Rattle.replay.proofs.executor.execute.Tie as tie
 
-execute-word-requires : tie.Need-execute-word-requires
-execute-word-requires c κs = outcome-done _ (sym (c .before .enum-told .given .1) ∙ c .before .before .before .check-bench .ensures)
+abbrev machine : tie.Start → Machine
+machine s = on (s .args .bench) (s .args .z .now) (s .args .p .now) (s .args .za .now)
+
+abbrev start : tie.After-check-bench → tie.Start
+start c = c .before .before .before .before
+
+passed : (c : tie.After-enum-told) → firstFailure (machineTests (machine (start (c .before .before)))) ≡ none
+passed c = outcome-done _ (sym (c .enum-told .given .1) ∙ c .before .before .check-bench .ensures)
 
 returns : tie.Need-returns
 returns c =
-    let a = c .before .before .before .before .before .before .before .args in
-    let f = refused-by-bench (a .bench) (a .z .now) (a .p .now) (a .za .now) (a .word) _ (outcome-refused _ _ (sym (c .before .r .given .1) ∙ c .before .before .before .check-bench .ensures)) in
-    (sym (ap outcome f), sym (za-after _ _ _ _ _ (some _) f))
+    let s = start (c .before .before .before) in
+    let h = outcome-refused _ _ (sym (c .before .r .given .1) ∙ c .before .before .before .check-bench .ensures) in
+    let f = refused-by-bench (machine s) (s .args .word) _ h in
+    (sym (ap outcome f), (sym (ap (λ (m : Machine). m .za) (after-by (machine s) (s .args .word) (some _) f)), sym (ap (λ o. outcomeNumber (outcome o)) f)))
 
 returns-2 : tie.Need-returns-2
 returns-2 c =
-    let a = c .before .before .before .before .before .before .before .before .before .before .args in
-    let f = refused-by-word (a .bench) (a .z .now) (a .p .now) (a .za .now) (a .word) (outcome-done _ (sym (c .before .before .before .before .enum-told .given .1) ∙ c .before .before .before .before .before .before .check-bench .ensures)) in
+    let t = c .before .before .before .before in
+    let s = start (t .before .before) in
+    let f = refused-by-word (machine s) (s .args .word) (passed t) in
     let e = c .before .before .execute-word .ensures in
-    (e .0 ∙ sym (ap outcome f), e .1 ∙ sym (za-after _ _ _ _ _ _ f))
+    let r = e .0 ∙ sym (ap outcome f) in
+    (r, (e .1 ∙ sym (ap (λ (m : Machine). m .za) (after-by (machine s) (s .args .word) _ f)), ap outcomeNumber r))
 
 pub execute-spec : {M : Type 1} → statement M
 execute-spec =
@@ -31,7 +42,7 @@ execute-spec =
     (λ c κs. search needs)
     (λ c. search needs)
     (λ c. search needs)
-    execute-word-requires
+    (λ c κs. passed (c .before))
     returns
     (λ c. search needs)
     returns-2)

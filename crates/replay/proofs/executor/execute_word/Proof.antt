@@ -1,50 +1,60 @@
--- `replay::executor::execute_word` meets its contract: by decode's answer. Assumes nothing.
-use mathlib.Core.Path.{_∙_, sym, ap, ap₂}
-use Rattle.isa.specs.Answers.{describe}
-use Rattle.isa.proofs.Answers.{decode-passed}
-use Rattle.isa.proofs.Theorems.{accepted-in-range}
-use Rattle.replay.specs.Execution.{effect, unless, outcome}
-use Rattle.replay.specs.Claims.{Passes}
-use Rattle.replay.proofs.Tests.{bench-passes, word-refused, word-accepted}
-use lib.ListN.{length}
+-- `replay::executor::execute_word` meets its contract: by what the word is admitted as. Assumes nothing.
+use mathlib.Core.Path.{_≡_, _∙_, sym, ap, ap₂}
+use mathlib.Core.List.{List}
+use mathlib.Core.Option.{Option, none, some}
+use Prim.Native.Nat.{ℕ}
 use borrow.Author.Needs.{needs}
+use Rattle.isa.specs.Answers.{describe}
+use Rattle.isa.specs.declared.Instruction.{Instruction}
+use Rattle.isa.specs.declared.Refusal.{Refusal}
+use Rattle.isa.proofs.Theorems.{described-is}
+use Rattle.replay.specs.Machine.{Machine, on}
+use Rattle.replay.specs.Execution.{wordRefusal, effect, unless, outcome}
+use Rattle.replay.proofs.Tests.{machine-passes, admit-accepted, admit-refused}
 use Rattle.replay.proofs.executor.execute_word.Statement.{statement}
 use Rattle.replay.proofs.executor.execute_word.Tie as tie
 
-passes : (s : tie.Start) → Passes (s .args .bench) (length (s .args .z .now)) (length (s .args .p .now)) (length (s .args .za .now))
-passes s = bench-passes (s .args .bench) (length (s .args .z .now)) (length (s .args .p .now)) (length (s .args .za .now)) (s .pre)
+abbrev machine : tie.Start → Machine
+machine s = on (s .args .bench) (s .args .z .now) (s .args .p .now) (s .args .za .now)
 
-execute-instruction-requires : tie.Need-execute-instruction-requires
-execute-instruction-requires c κs = (c .before .before .before .before .before .before .before .before .pre, accepted-in-range _ _ _ (search needs) (sym (c .before .before .before .before .decode .ensures) ∙ c .before .before .i .given .1))
+-- ZA by the word's refusal and its instruction
+abbrev left : tie.Start → Option Refusal → Option Instruction → List ℕ
+left s o d = unless o (machine s) (effect (machine s) d) .za
+
+abbrev start : tie.After-i → tie.Start
+start c = c .before .before .before .before .before .before
+
+admitted : (c : tie.After-i)
+    → (wordRefusal (machine (start c)) (start c .args .word) ≡ none) × (describe (start c .args .word) ≡ some (c .i .given .0 .0))
+admitted c =
+    let a = start c .args in
+    admit-accepted (a .bench) (a .word) _ (sym (c .i .given .1) ∙ c .before .before .admit .ensures)
+
+perform-requires : tie.Need-perform-requires
+perform-requires c κs =
+    let i = c .before .before in
+    (start i .pre, described-is _ _ (search needs) (admitted i .1) .0)
 
 returns : tie.Need-returns
 returns c =
-    let s = c .before .before .before .before .before .before .before .before .before .before .before in
-    let a = s .args in
-    let d = sym (c .before .before .before .before .before .before .before .decode .ensures) ∙ c .before .before .before .before .before .i .given .1 in
-    let f = word-accepted (a .bench) (a .word) (passes s .flags) _ d in
-    let e = c .before .before .execute-instruction .ensures in (
-      e .0 ∙ sym (ap outcome f),
-      e .1 ∙ sym (ap₂ (λ o d. unless o (a .za .now) (effect (a .bench .vb) (a .z .now) (a .p .now) d (a .za .now))) f (decode-passed _ _ _ d .1)),
-    )
+    let s = c .before .before .before .before .before .before .before in
+    let f = admit-refused (s .args .bench) (s .args .word) _ (sym (c .before .r .given .1) ∙ c .before .before .before .admit .ensures) in
+    (sym (ap outcome f), sym (ap (λ o. left s o (describe (s .args .word))) f))
 
 returns-2 : tie.Need-returns-2
 returns-2 c =
-    let s = c .before .before .before .before .before .before .before in
-    let a = s .args in
-    let f = word-refused (a .bench) (a .word) (passes s .flags) _ (sym (c .before .before .before .decode .ensures) ∙ c .before .r .given .1) in (
-      sym (ap outcome f),
-      sym (ap (λ o. unless o (a .za .now) (effect (a .bench .vb) (a .z .now) (a .p .now) (describe (a .word)) (a .za .now))) f),
-    )
+    let i = c .before .before .before .before .before in
+    let (f, d) = admitted i in
+    (sym (ap outcome f), c .before .before .perform .ensures ∙ sym (ap₂ (left (start i)) f d))
 
 pub execute-word-spec : {M : Type 1} → statement M
 execute-word-spec =
     tie.close
     (tie.spec
-    (λ c κs. search needs)
-    (λ c. search needs)
-    execute-instruction-requires
+    (λ c κs. let s = c .before .before .before in machine-passes (machine s) (s .pre) .flags)
     (λ c. search needs)
     (λ c. search needs)
+    perform-requires
     returns
+    (λ c. search needs)
     returns-2)

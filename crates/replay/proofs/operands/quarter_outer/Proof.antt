@@ -1,13 +1,24 @@
--- `replay::operands::quarter_outer` meets its contract. Assumes nothing.
+-- `replay::operands::quarter_outer` meets its contract, by its callees'. Assumes nothing.
+use mathlib.Core.Path.{_∙_}
+use Prim.Native.Nat.{_≤_}
+use native.Mathlib.Omega.{arith}
 use borrow.Author.Needs.{needs}
+use Rattle.isa.specs.Table.{register}
+use Rattle.replay.proofs.Ready.{quarter-registers}
 use Rattle.replay.proofs.operands.quarter_outer.Statement.{statement}
 use Rattle.replay.proofs.operands.quarter_outer.Tie as tie
+
+returns : tie.Need-returns
+returns c = c .outer-product .ensures ∙ rw (c .before .before .halves-operand .ensures, c .before .halves-operand2 .ensures)
+
+registers : (s : tie.Start) → (register (s .args .first) ≤ 14) × (register (s .args .second) ≤ 30)
+registers s = quarter-registers (s .args .op) (s .args .tile) (s .args .first) (s .args .second) (s .pre)
 
 pub quarter-outer-spec : {M : Type 1} → statement M
 quarter-outer-spec =
     tie.close
     (tie.spec
-    (λ c. search needs)
+    (λ c κs. omega (arith, registers c))
+    (λ c κs. omega (arith, registers (c .before)))
     (λ c κs. search needs)
-    (λ c κs. search needs)
-    (λ c. rw (c .before .halves-operand .ensures, c .halves-operand2 .ensures)))
+    returns)

@@ -1,18 +1,33 @@
--- `replay::reversal::exchange` meets its contract: by decode's answer. Assumes nothing.
-use mathlib.Core.Path.{_∙_, sym}
-use Rattle.replay.proofs.Exchanged.{exchange-accepted, exchange-refused}
+-- `replay::reversal::exchange` meets its contract: the bench refuses, or the word is left to its tests. Assumes nothing.
+use mathlib.Core.Path.{_≡_, _∙_, sym}
+use mathlib.Core.Option.{none}
 use borrow.Author.Needs.{needs}
+use Rattle.isa.specs.Refusals.{firstFailure}
+use Rattle.replay.specs.Machine.{Machine, on}
+use Rattle.replay.specs.Execution.{machineTests}
+use Rattle.replay.proofs.Tests.{outcome-done, outcome-refused, machine-passes}
+use Rattle.replay.proofs.Execution.{refused-by-bench, refused-by-word}
 use Rattle.replay.proofs.reversal.exchange.Statement.{statement}
 use Rattle.replay.proofs.reversal.exchange.Tie as tie
 
+abbrev machine : tie.Start → Machine
+machine s = on (s .args .bench) (s .args .z .now) (s .args .p .now) (s .args .za .now)
+
+abbrev start : tie.After-check-bench → tie.Start
+start c = c .before .before .before .before
+
+passed : (c : tie.After-enum-told2) → firstFailure (machineTests (machine (start (c .before .before)))) ≡ none
+passed c = outcome-done _ (sym (c .enum-told2 .given .1) ∙ c .before .before .check-bench .ensures)
+
 returns : tie.Need-returns
-returns c = rw (exchange-accepted _ _ _ (sym (c .before .before .before .before .before .before .decode .ensures) ∙ c .before .before .before .before .i .given .1), sym (c .before .before .is-outer .ensures) ∙ c .before .if1 .taken) (c .flip-s .ensures)
+returns c =
+    let s = start (c .before .before) in
+    rw (refused-by-bench (machine s) (s .args .word) _ (outcome-refused _ _ (sym (c .enum-told .given .1) ∙ c .before .before .check-bench .ensures)))
 
 returns-2 : tie.Need-returns-2
-returns-2 c = rw (exchange-accepted _ _ _ (sym (c .before .before .before .before .before .decode .ensures) ∙ c .before .before .before .i .given .1), sym (c .before .is-outer .ensures) ∙ c .if1 .left)
-
-returns-3 : tie.Need-returns-3
-returns-3 c = sym (exchange-refused _ _ _ (sym (c .before .before .decode .ensures) ∙ c .enum-told .given .1))
+returns-2 c =
+    let s = start (c .before .before .before) in
+    c .exchange-word .ensures ∙ rw (refused-by-word (machine s) (s .args .word) (passed (c .before)))
 
 pub exchange-spec : {M : Type 1} → statement M
 exchange-spec =
@@ -20,9 +35,7 @@ exchange-spec =
     (tie.spec
     (λ c κs. search needs)
     (λ c. search needs)
-    (λ c κs. search needs)
-    (λ c κs. search needs)
-    returns
     (λ c. search needs)
-    returns-2
-    returns-3)
+    (λ c κs. machine-passes (machine (start (c .before .before))) (passed c) .flags)
+    returns
+    returns-2)

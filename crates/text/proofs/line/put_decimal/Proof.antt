@@ -7,10 +7,14 @@ use Rattle.text.proofs.line.put_decimal.Statement.{statement}
 use Rattle.text.proofs.line.put_decimal.Tie as tie
 
 returns : tie.Need-returns
-returns c = put-as (c .before .before .put .ensures) (rw (lt-ltb _ 10 (c .before .before .before .before .before .if1 .taken))) (omega arith)
+returns c =
+    let done = c .before .before in
+    put-as (done .put .ensures) (rw (lt-ltb _ 10 (done .before .before .before .if1 .taken))) (omega arith)
 
 returns-2 : tie.Need-returns-2
-returns-2 c = put-as (c .before .before .put2 .ensures) (rw (le-ltb _ 10 (c .before .before .before .before .before .if1 .left))) (omega arith)
+returns-2 c =
+    let done = c .before .before in
+    put-as (done .put2 .ensures) (rw (le-ltb _ 10 (done .before .before .before .if1 .left))) (omega arith)
 
 pub put-decimal-spec : {M : Type 1} → statement M
 put-decimal-spec =

@@ -11,9 +11,15 @@ use Rattle.text.proofs.line.put_heading.Tie as tie
 
 returns : tie.Need-returns
 returns c =
-    let a = c .before .before .before .before .before .before .before .before .before .before .before .before .args in
-    put-as (c .before .before .before .before .before .before .before .before .put-mnemonic .ensures then c .before .before .put-name .ensures)
-    (rw (c .before .before .before .tile-letter .ensures) (heading-text (mnemonic (a .stem .now) (a .op)) (ascii "za" ++ decimal (a .tile .0) ++ (ascii "." ++ (c .before .before .before .tile-letter .result ∷ [])))))
+    let name = c .before .before in
+    let word = name .before .before .before .before .before in
+    let letter = word .before .before in
+    let size = letter .before in
+    let a = size .before .before .before .args in
+    let mark = ascii "." ++ (letter .suffix-letter .result ∷ []) in
+    put-as (word .put-mnemonic .ensures then name .put-name .ensures)
+    (rw (← size .element-bytes .ensures, letter .suffix-letter .ensures)
+    (heading-text (mnemonic (a .stem .now) (a .op)) (ascii "za" ++ decimal (a .tile .0) ++ mark)))
     (omega arith)
 
 pub put-heading-spec : {M : Type 1} → statement M
@@ -21,8 +27,9 @@ put-heading-spec =
     tie.close
     (tie.spec
     (λ c κs. search needs)
-    (λ c. search needs)
     (λ c κs. search needs)
+    (λ c κs. search needs)
+    (λ c. search needs)
     (λ c κs. search needs)
     (λ c. search needs)
     returns)

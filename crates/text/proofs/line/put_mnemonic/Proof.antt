@@ -6,10 +6,24 @@ use Rattle.text.proofs.line.put_mnemonic.Statement.{statement}
 use Rattle.text.proofs.line.put_mnemonic.Tie as tie
 
 returns : tie.Need-returns
-returns c = put-as (c .before .before .before .before .before .before .before .before .before .before .before .before .put-signs .ensures then c .before .before .before .before .before .before .before .before .put .ensures then c .before .before .put2 .ensures) (rw (c .before .before .before .before .before .if1 .taken)) (omega (arith, c .before .before .before .before .before .before .before .before .before .before .before .before .before .before .before .before .pre))
+returns c =
+    let letter = c .before .before in
+    let test = letter .before .before .before in
+    let stem = test .before .before .before in
+    let signs = stem .before .before .before .before in
+    put-as (signs .put-signs .ensures then stem .put .ensures then letter .put2 .ensures)
+    (rw (test .if1 .taken))
+    (omega (arith, signs .before .before .before .before .pre))
 
 returns-2 : tie.Need-returns-2
-returns-2 c = put-as (c .before .before .before .before .before .before .before .before .before .before .before .before .put-signs .ensures then c .before .before .before .before .before .before .before .before .put .ensures then c .before .before .put3 .ensures) (rw (c .before .before .before .before .before .if1 .left)) (omega (arith, c .before .before .before .before .before .before .before .before .before .before .before .before .before .before .before .before .pre))
+returns-2 c =
+    let letter = c .before .before in
+    let test = letter .before .before .before in
+    let stem = test .before .before .before in
+    let signs = stem .before .before .before .before in
+    put-as (signs .put-signs .ensures then stem .put .ensures then letter .put3 .ensures)
+    (rw (test .if1 .left))
+    (omega (arith, signs .before .before .before .before .pre))
 
 pub put-mnemonic-spec : {M : Type 1} → statement M
 put-mnemonic-spec =

@@ -7,7 +7,11 @@ use Rattle.text.proofs.line.put_name.Statement.{statement}
 use Rattle.text.proofs.line.put_name.Tie as tie
 
 returns : tie.Need-returns
-returns c = put-as (c .before .before .before .before .before .before .before .before .before .before .before .put .ensures then c .before .before .before .before .before .before .before .put-decimal .ensures then c .before .before .put2 .ensures) refl (omega arith)
+returns c =
+    let mark = c .before .before in
+    let number = mark .before .before .before .before .before in
+    let lead = number .before .before .before .before in
+    put-as (lead .put .ensures then number .put-decimal .ensures then mark .put2 .ensures) refl (omega arith)
 
 pub put-name-spec : {M : Type 1} → statement M
 put-name-spec =

@@ -12,10 +12,13 @@ use Rattle.text.proofs.line.put_pair.Tie as tie
 
 returns : tie.Need-returns
 returns c =
-    let a = c .before .before .before .before .before .before .before .before .before .before .before .before .before .before .before .before .before .before .args in
-    let l = c .before .before .before .before .before .before .before .before .before .before .before .before .before .before .before .before .source-letter in
-    put-as (c .before .before .before .before .before .before .before .before .before .before .before .before .before .put-name .ensures then c .before .before .before .before .before .before .before .put-name2 .ensures then c .before .before .put .ensures)
-    (rw (l .ensures) (pair-text (decimal (a .v .0)) (decimal (a .v .0 + 1)) (ascii "." ++ (l .result ∷ []))))
+    let brace = c .before .before in
+    let second = brace .before .before .before .before .before in
+    let first = second .before .before .before .before .before .before in
+    let letter = first .before .before .before .suffix-letter in
+    let a = first .before .before .before .before .before .args in
+    put-as (first .put-name .ensures then second .put-name2 .ensures then brace .put .ensures)
+    (rw (letter .ensures) (pair-text (decimal (a .v .0)) (decimal (a .v .0 + 1)) (ascii "." ++ (letter .result ∷ []))))
     (omega arith)
 
 pub put-pair-spec : {M : Type 1} → statement M

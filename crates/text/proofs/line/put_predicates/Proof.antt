@@ -7,7 +7,10 @@ use Rattle.text.proofs.line.put_predicates.Statement.{statement}
 use Rattle.text.proofs.line.put_predicates.Tie as tie
 
 returns : tie.Need-returns
-returns c = put-as (c .before .before .before .before .before .before .before .put-name .ensures then c .before .before .put-name2 .ensures) refl (omega arith)
+returns c =
+    let second = c .before .before in
+    let first = second .before .before .before .before .before in
+    put-as (first .put-name .ensures then second .put-name2 .ensures) refl (omega arith)
 
 pub put-predicates-spec : {M : Type 1} → statement M
 put-predicates-spec =

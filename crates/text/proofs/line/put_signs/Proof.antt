@@ -6,16 +6,28 @@ use Rattle.text.proofs.line.put_signs.Statement.{statement}
 use Rattle.text.proofs.line.put_signs.Tie as tie
 
 returns : tie.Need-returns
-returns c = put-as (c .before .before .put .ensures) (rw (c .before .before .before .before .before .before .if1 .taken, c .before .before .before .before .before .if2 .taken)) (omega arith)
+returns c =
+    let done = c .before .before in
+    let test = done .before .before .before in
+    put-as (done .put .ensures) (rw (test .before .if1 .taken, test .if2 .taken)) (omega arith)
 
 returns-2 : tie.Need-returns-2
-returns-2 c = put-as (c .before .before .put2 .ensures) (rw (c .before .before .before .before .before .before .if1 .taken, c .before .before .before .before .before .if2 .left)) (omega arith)
+returns-2 c =
+    let done = c .before .before in
+    let test = done .before .before .before in
+    put-as (done .put2 .ensures) (rw (test .before .if1 .taken, test .if2 .left)) (omega arith)
 
 returns-3 : tie.Need-returns-3
-returns-3 c = put-as (c .before .before .put3 .ensures) (rw (c .before .before .before .before .before .before .if1 .left, c .before .before .before .before .before .if3 .taken)) (omega arith)
+returns-3 c =
+    let done = c .before .before in
+    let test = done .before .before .before in
+    put-as (done .put3 .ensures) (rw (test .before .if1 .left, test .if3 .taken)) (omega arith)
 
 returns-4 : tie.Need-returns-4
-returns-4 c = put-as (c .before .before .put4 .ensures) (rw (c .before .before .before .before .before .before .if1 .left, c .before .before .before .before .before .if3 .left)) (omega arith)
+returns-4 c =
+    let done = c .before .before in
+    let test = done .before .before .before in
+    put-as (done .put4 .ensures) (rw (test .before .if1 .left, test .if3 .left)) (omega arith)
 
 pub put-signs-spec : {M : Type 1} → statement M
 put-signs-spec =

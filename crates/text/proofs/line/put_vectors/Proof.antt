@@ -6,7 +6,11 @@ use Rattle.text.proofs.line.put_vectors.Statement.{statement}
 use Rattle.text.proofs.line.put_vectors.Tie as tie
 
 returns : tie.Need-returns
-returns c = put-as (c .before .before .before .before .before .before .before .put-name .ensures then c .before .before .put-name2 .ensures) (rw (c .before .before .before .before .before .before .before .before .before .before .source-letter .ensures)) (omega arith)
+returns c =
+    let second = c .before .before in
+    let first = second .before .before .before .before .before in
+    let letter = first .before .before .before in
+    put-as (first .put-name .ensures then second .put-name2 .ensures) (rw (letter .suffix-letter .ensures)) (omega arith)
 
 pub put-vectors-spec : {M : Type 1} → statement M
 put-vectors-spec =

@@ -9,19 +9,31 @@ use Rattle.text.proofs.line.spell.Statement.{statement}
 use Rattle.text.proofs.line.spell.Tie as tie
 
 spell-predicated-requires : tie.Need-spell-predicated-requires
-spell-predicated-requires c κs = (omega (arith, c .before .before .before .before .before .pre), sym (ap inRange (c .before .before .i .given .1)) ∙ c .before .before .before .before .before .pre .1)
+spell-predicated-requires c κs =
+    let arm = c .before .before in
+    let start = arm .before .before .before in
+    (omega (arith, start .pre), sym (ap inRange (arm .i .given .1)) ∙ start .pre .1)
 
 spell-quarter-requires : tie.Need-spell-quarter-requires
-spell-quarter-requires c κs = (omega (arith, c .before .before .before .before .before .pre), sym (ap inRange (c .before .before .i2 .given .1)) ∙ c .before .before .before .before .before .pre .1)
+spell-quarter-requires c κs =
+    let arm = c .before .before in
+    let start = arm .before .before .before in
+    (omega (arith, start .pre), sym (ap inRange (arm .i2 .given .1)) ∙ start .pre .1)
 
 returns : tie.Need-returns
-returns c = put-as (c .before .before .spell-predicated .ensures) (sym (ap spelling (c .before .before .before .before .before .i .given .1))) (omega arith)
+returns c =
+    let done = c .before .before in
+    put-as (done .spell-predicated .ensures) (sym (ap spelling (done .before .before .before .i .given .1))) (omega arith)
 
 returns-2 : tie.Need-returns-2
-returns-2 c = put-as (c .before .before .spell-quarter .ensures) (sym (ap spelling (c .before .before .before .before .before .i2 .given .1))) (omega arith)
+returns-2 c =
+    let done = c .before .before in
+    put-as (done .spell-quarter .ensures) (sym (ap spelling (done .before .before .before .i2 .given .1))) (omega arith)
 
 returns-3 : tie.Need-returns-3
-returns-3 c = put-as (c .before .before .spell-zero .ensures) (sym (ap spelling (c .before .before .before .before .before .i3 .given .1))) (omega arith)
+returns-3 c =
+    let done = c .before .before in
+    put-as (done .spell-zero .ensures) (sym (ap spelling (done .before .before .before .i3 .given .1))) (omega arith)
 
 pub spell-spec : {M : Type 1} → statement M
 spell-spec =

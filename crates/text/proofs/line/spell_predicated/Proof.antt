@@ -1,6 +1,6 @@
 -- `text::line::spell_predicated` meets its contract: heading, predicates and vectors one after the other. Assumes nothing.
 use mathlib.Core.List.{_++_}
-use Rattle.isa.specs.Table.{predicated64, fieldsFrom}
+use Rattle.isa.specs.Table.{predicated64, fieldsFrom, elementBytes, sourceBytes}
 use Rattle.isa.specs.declared.Instruction.the-variants.{Predicated}
 use Rattle.isa.proofs.Rows.{Fit}
 use Rattle.isa.proofs.Lines.{predicated-range}
@@ -20,14 +20,22 @@ put-predicates-requires : tie.Need-put-predicates-requires
 put-predicates-requires c κs = omega (arith, fit (c .before .before .before .before .before .before .before))
 
 put-vectors-requires : tie.Need-put-vectors-requires
-put-vectors-requires c κs = omega (arith, fit (c .before .before .before .before .before .before .before .before .before .before .before))
+put-vectors-requires c κs =
+    let heading = c .before .before .before .before .before .before .before .before in
+    omega (arith, fit (heading .before .before .before .before))
 
 returns : tie.Need-returns
 returns c =
-    let a = c .before .before .before .before .before .before .before .before .before .before .before .before .before .before .args in
-    let wide = a .op .wide in
-    put-as (c .before .before .before .before .before .before .before .before .before .before .put-heading .ensures then c .before .before .before .before .before .before .put-predicates .ensures then c .before .before .put-vectors .ensures)
-    (unfold spelling in predicated-text (mnemonic (ascii "mop") (a .op) ++ ascii " ") (tileName wide (a .tile)) (predicateName (a .pn)) (predicateName (a .pm)) (vectorName wide (a .zn .0)) (vectorName wide (a .zm .0)))
+    let vectors = c .before .before in
+    let size = vectors .before in
+    let predicates = size .before .before .before .before in
+    let heading = predicates .before .before .before .before in
+    let a = heading .before .before .before .before .args in
+    let name = vectorName (sourceBytes (a .op)) in
+    put-as (heading .put-heading .ensures then predicates .put-predicates .ensures then vectors .put-vectors .ensures)
+    (rw (size .source-bytes .ensures)
+    (unfold spelling in predicated-text (mnemonic (ascii "mop") (a .op) ++ ascii " ") (tileName (elementBytes (a .op)) (a .tile))
+    (predicateName (a .pn)) (predicateName (a .pm)) (name (a .zn .0)) (name (a .zm .0))))
     (omega arith)
 
 pub spell-predicated-spec : {M : Type 1} → statement M
@@ -37,6 +45,7 @@ spell-predicated-spec =
     (λ c. search needs)
     (λ c κs. omega (arith, fit (c .before .before .before)))
     put-predicates-requires
+    (λ c κs. search needs)
     put-vectors-requires
     (λ c. search needs)
     returns)

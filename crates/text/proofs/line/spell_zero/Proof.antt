@@ -9,16 +9,26 @@ use Rattle.text.proofs.line.spell_zero.Tie as tie
 
 returns : tie.Need-returns
 returns c =
-    let p = c .before .before .before .before .before .before .before .before .put-tiles .ensures in
-    put-as (c .before .before .before .before .before .before .before .before .before .before .before .before .put .ensures then p then c .before .before .put2 .ensures)
-    (unfold spelling in zero-none (tilesOfMask (c .before .before .before .before .before .before .before .before .before .before .before .before .before .before .before .before .args .mask)) (c .before .before .before .before .before .before .before .before .put-tiles .result) (omega (arith, p .ends, c .before .before .before .before .before .before .before .before .before .before .before .before .put .ensures)) (c .before .before .before .before .before .if1 .taken))
+    let brace = c .before .before in
+    let test = brace .before .before .before in
+    let tiles = test .before .before .before in
+    let word = tiles .before .before .before .before in
+    let mask = word .before .before .before .before .args .mask in
+    put-as (word .put .ensures then tiles .put-tiles .ensures then brace .put2 .ensures)
+    (unfold spelling in
+    zero-none (tilesOfMask mask) (tiles .put-tiles .result) (omega (arith, tiles .put-tiles .ensures .ends, word .put .ensures)) (test .if1 .taken))
     (omega arith)
 
 returns-2 : tie.Need-returns-2
 returns-2 c =
-    let p = c .before .before .before .before .before .before .before .before .put-tiles .ensures in
-    put-as (c .before .before .before .before .before .before .before .before .before .before .before .before .put .ensures then p then c .before .before .put3 .ensures)
-    (unfold spelling in zero-some (tilesOfMask (c .before .before .before .before .before .before .before .before .before .before .before .before .before .before .before .before .args .mask)) (c .before .before .before .before .before .before .before .before .put-tiles .result) (omega (arith, p .ends, c .before .before .before .before .before .before .before .before .before .before .before .before .put .ensures)) (c .before .before .before .before .before .if1 .left))
+    let brace = c .before .before in
+    let test = brace .before .before .before in
+    let tiles = test .before .before .before in
+    let word = tiles .before .before .before .before in
+    let mask = word .before .before .before .before .args .mask in
+    put-as (word .put .ensures then tiles .put-tiles .ensures then brace .put3 .ensures)
+    (unfold spelling in
+    zero-some (tilesOfMask mask) (tiles .put-tiles .result) (omega (arith, tiles .put-tiles .ensures .ends, word .put .ensures)) (test .if1 .left))
     (omega arith)
 
 pub spell-zero-spec : {M : Type 1} → statement M

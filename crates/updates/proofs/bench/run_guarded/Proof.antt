@@ -1,14 +1,14 @@
 -- `updates::bench::run_guarded` is safe and ends: it has tested what it calls for. Assumes nothing.
-use mathlib.Core.Path.{_≡_, sym, ap, _∙_}
+use mathlib.Core.Path.{_≡_, sym, _∙_}
 use mathlib.Core.Bool.{true}
-use Prim.Native.Nat.{ℕ, _<_}
+use Prim.Native.Nat.{_<_}
 use native.Mathlib.Nat.{mul-le-mul}
 use native.Mathlib.Omega.{arith}
 use borrow.Author.Needs.{needs}
 use borrow.Author.Tests.{not-false}
-use Rattle.storage.specs.Sizes.{legal, zSize, pSize, zaSize}
+use Rattle.storage.specs.Sizes.{legal}
 use Rattle.storage.proofs.Sizes.{Length, legal-length}
-use Rattle.outer.specs.Products.{Ready}
+use Rattle.outer.specs.Products.{Shaped, Ready}
 use Rattle.updates.proofs.bench.run_guarded.Statement.{statement}
 use Rattle.updates.proofs.bench.run_guarded.Tie as tie
 
@@ -24,27 +24,32 @@ size c = legal-length (start c .args .c .vb) (is-legal c)
 mul-if4 : tie.Need-mul-if4
 mul-if4 c = let l = size (c .before .before) in omega (arith, mul-le-mul (l .most) (l .most))
 
+-- the tests passed and the outer product made
 module _ (c : tie.After-outer-product) where
-  ready : (E : ℕ) → start (c .before .before .before .before) .args .c .tile < E
-      → let a = start (c .before .before .before .before) .args in Ready E (c .outer-product .result) (a .z .now) (a .p .now)
-  ready E h =
+  abbrev passed : tie.Else4
+  passed = c .before .before
+
+  abbrev legal-here : tie.Else1
+  legal-here = passed .before .before .before
+
+  shaped : let o = c .outer-product .result in Shaped (o .element) (o .products)
+  shaped = let e = c .outer-product .ensures in rw (e .0, e .1) (c .before .element-bytes .ensures)
+
+  ready : let a = start legal-here .args in a .c .tile < c .before .element-bytes .result
+      → let o = c .outer-product .result in Ready (o .element) (a .c .vb) o (a .z .now) (a .p .now)
+  ready h =
       let e = c .outer-product .ensures in
       record {
-        length-legal = ap legal (e .0) ∙ is-legal (c .before .before .before .before);
-        z-size = c .before .before .before .if2 .left ∙ sym (ap zSize (e .0));
-        p-size = c .before .before .if3 .left ∙ sym (ap pSize (e .0));
-        tile = rw (e .1) h;
-        first = e .2;
-        second = e .3;
+        length-legal = is-legal legal-here;
+        z-size = passed .before .before .if2 .left;
+        p-size = passed .before .if3 .left;
+        tile = rw (e .0, e .2) h;
+        first = e .3;
+        second = e .4;
       }
 
-update64-requires : tie.Need-update64-requires
-update64-requires c κs =
-    let o = c .before .before .before in (ready o 8 (c .before .if6 .taken), o .before .if4 .left ∙ sym (ap zaSize (o .outer-product .ensures .0)))
-
-update32-requires : tie.Need-update32-requires
-update32-requires c κs =
-    let o = c .before .before .before in (ready o 4 (c .before .if7 .taken), o .before .if4 .left ∙ sym (ap zaSize (o .outer-product .ensures .0)))
+update-requires : tie.Need-update-requires
+update-requires c κs = let o = c .before .before .before in (shaped o, (ready o (c .before .if5 .taken), passed o .if4 .left))
 
 pub run-guarded-spec : {M : Type 1} → statement M
 run-guarded-spec =
@@ -59,11 +64,9 @@ run-guarded-spec =
     mul-if4
     (λ c. search needs)
     (λ c κs. search needs)
-    update64-requires
-    update32-requires
+    (λ c κs. search needs)
     (λ c. search needs)
-    (λ c. search needs)
-    (λ c. search needs)
+    update-requires
     (λ c. search needs)
     (λ c. search needs)
     (λ c. search needs))

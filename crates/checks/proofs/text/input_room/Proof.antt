@@ -1,0 +1,13 @@
+-- `checks::text::input_room` meets its contract. The law is given its type and level: found by unification, they would have
+-- antt count the list. Assumes nothing.
+use mathlib.Core.Path.{refl, sym}
+use Prim.Native.Nat.{ℕ}
+use lib.ListN.{length-replicate}
+use Rattle.checks.proofs.text.input_room.Statement.{statement}
+use Rattle.checks.proofs.text.input_room.Tie as tie
+
+returns : tie.Need-returns
+returns c = (refl, sym (length-replicate {0} {A = ℕ} 1048576 0))
+
+pub input-room-spec : {M : Type 1} → statement M
+input-room-spec = tie.close (tie.spec returns)

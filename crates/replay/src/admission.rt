@@ -1,0 +1,97 @@
+// Which words a bench admits: the tests in the paper's order.
+ghost use mathlib.Core.Path.{_≡_};
+ghost use mathlib.Core.Option.{some};
+ghost use Prim.Native.Nat.{_≤_};
+ghost use Rattle.isa.specs.Refusals.{firstFailure};
+ghost use Rattle.isa.specs.Table.{allFlags};
+ghost use Rattle.isa.specs.Answers.{describe, decided};
+ghost use Rattle.replay.specs.Instructions.{modesOf};
+ghost use Rattle.replay.specs.Execution.{benchTests, modeTests, wordTests, outcome};
+use crate::Bench;
+use crate::Modes;
+use crate::Outcome;
+use isa::Decoded;
+use isa::Instruction;
+use isa::Refusal;
+
+// Tests 1 to 5.
+pub(crate) fn check_bench(bench: Bench, z: usize, p: usize, za: usize) -> Outcome
+    ensures { λ r. ⌜ r ≡ outcome (firstFailure (benchTests bench z p za)) ⌝ }
+{
+    if !isa::flags_legal(bench.flags) {
+        return Outcome::Refused(Refusal::Flags);
+    }
+    let vb = bench.vb;
+    if !storage::is_legal(vb) {
+        return Outcome::Refused(Refusal::VectorLength);
+    }
+    if z != 32 * vb {
+        return Outcome::Refused(Refusal::ZLength);
+    }
+    if p != 2 * vb {
+        return Outcome::Refused(Refusal::PLength);
+    }
+    if za != vb * vb {
+        return Outcome::Refused(Refusal::ZaLength);
+    }
+    Outcome::Done
+}
+
+// Tests 7 to 10 of a word on a bench with legal flags: its instruction, or the refusal.
+pub(crate) fn admit(bench: Bench, word: u32) -> Decoded
+    requires { ⌜ bench .flags ≤ allFlags ⌝ }
+    ensures { λ r. ⌜ r ≡ decided (firstFailure (wordTests bench word)) (describe word) ⌝ }
+{
+    match isa::decode(bench.flags, word) {
+        Decoded::Refused(r) => Decoded::Refused(r),
+        Decoded::Accepted(i) => match check_modes(bench, modes_of(i)) {
+            Outcome::Refused(r) => Decoded::Refused(r),
+            Outcome::Done => Decoded::Accepted(i),
+        },
+    }
+}
+
+// Tests 9 and 10.
+fn check_modes(bench: Bench, needs: Modes) -> Outcome
+    ensures { λ r. ⌜ r ≡ outcome (firstFailure (modeTests bench needs)) ⌝ }
+{
+    if needs.streaming & !bench.sm {
+        return Outcome::Refused(Refusal::StreamingOff);
+    }
+    if needs.za & !bench.za {
+        return Outcome::Refused(Refusal::ZaOff);
+    }
+    Outcome::Done
+}
+
+// The modes that an instruction needs: an outer product both, ZERO ZA alone.
+fn modes_of(i: Instruction) -> Modes
+    ensures { λ r. ⌜ r ≡ modesOf (some i) ⌝ }
+{
+    match i {
+        Instruction::Predicated {
+            op: _,
+            tile: _,
+            pn: _,
+            pm: _,
+            zn: _,
+            zm: _,
+        } => Modes {
+            streaming: true,
+            za: true,
+        },
+        Instruction::Quarter {
+            op: _,
+            tile: _,
+            first: _,
+            second: _,
+        } => Modes {
+            streaming: true,
+            za: true,
+        },
+        Instruction::Zero(_) => Modes {
+            streaming: false,
+            za: true,
+        },
+    }
+}
