@@ -201,7 +201,7 @@ low-bit x k j h =
     subst (λ (n : ℕ). x % 2 ^ n / 2 ^ j % 2 ≡ x / 2 ^ j % 2) (sym e)
     (rw field-either-way (mod-mod-pow (x / 2 ^ j) (k - suc j) 1))
 
-both : (a b : Bool) → a && b ≡ true → (a ≡ true) × (b ≡ true)
+pub both : (a b : Bool) → a && b ≡ true → (a ≡ true) × (b ≡ true)
 both true b h = (refl, h)
 both false b h = (h, let z : _≡_ {A = ℕ} 0 1 = cc in absurd (omega arith))
 

@@ -8,17 +8,11 @@ use native.Mathlib.Nat.{le-trans, mul-le-mul, mul-comm, suc-mul, pow-suc, not-su
 use native.Mathlib.Omega.{arith}
 use lib.Dec.{ltb, le→leb, lit<}
 use lib.IntN.{ℤ, pos, negsuc, negℤ, subℕ, _+ℤ_, _*ℤ_}
-use lib.Signed.{_≤ℤ_}
 use borrow.Author.Tests.{ltb-true, ltb-false}
 use Rattle.storage.specs.Bytes.{at}
 use Rattle.storage.proofs.Bytes.{word-lt}
 use Rattle.outer.specs.declared.OuterProduct.{OuterProduct}
-use Rattle.outer.specs.Products.{interpret, registerAt, sourceElement, firstElement, secondElement, counts, product, sum}
-
--- low ≤ z ≤ high, in the order of the whole numbers
-pub record Between (low high z : ℤ) : Type 0 where
-  pub above : low ≤ℤ z
-  pub below : z ≤ℤ high
+use Rattle.outer.specs.Products.{interpret, registerAt, sourceElement, firstElement, secondElement, counts, product, sum, Between}
 
 -- -low ≤ z ≤ high, by z's sign; negsuc n is -(n + 1)
 abbrev Within : ℕ → ℕ → ℤ → Type 0

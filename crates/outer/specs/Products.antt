@@ -1,5 +1,6 @@
 -- What an outer product adds to each element of its tile (document 01, "Execution"; Arm's pseudocode of SUMOPS and
--- USMOP4S). Over the size E of a tile element in bytes and the number K of products; a source element has E / K bytes.
+-- USMOP4S). Over the size E of a tile element in bytes and the number K of products, as parameters of the definitions and
+-- their laws; a source element has E / K bytes. `sums` reads both off an outer product.
 use mathlib.Core.Path.{_≡_}
 use mathlib.Core.Bool.{Bool, true, cond, _&&_}
 use mathlib.Core.List.{List}
@@ -7,6 +8,7 @@ use Prim.Native.Nat.{ℕ, zero, suc, _+_, _-_, _*_, _/_, _^_, _<_}
 use lib.Dec.{ltb}
 use lib.IntN.{ℤ, pos, negsuc, negℤ, _+ℤ_, _*ℤ_}
 use lib.ListN.{length}
+use lib.Signed.{_≤ℤ_}
 use Rattle.storage.specs.Sizes.{legal, zSize, pSize}
 use Rattle.storage.specs.Bytes.{at, word, bitAt}
 use Rattle.outer.specs.declared.Predication.{Predication}
@@ -61,6 +63,15 @@ directedProduct E K vb o z p row col k = directed (o .subtract) (product E K vb 
 -- all K products of element (row, col)
 unfoldable pub dot : ℕ → ℕ → ℕ → OuterProduct → List ℕ → List ℕ → ℕ → ℕ → ℤ
 dot E K vb o z p row col = sum (directedProduct E K vb o z p row col) K
+
+-- what an outer product adds to each element (row, col) of its tile: of its own element size and number of products
+abbrev pub sums : ℕ → OuterProduct → List ℕ → List ℕ → ℕ → ℕ → ℤ
+sums vb o z p = dot (o .element) (o .products) vb o z p
+
+-- low ≤ z ≤ high: document 01's bounds of the products of an element
+pub record Between (low high z : ℤ) : Type 0 where
+  pub above : low ≤ℤ z
+  pub below : z ≤ℤ high
 
 -- ---- what a caller has seen to before an update
 

@@ -3,7 +3,7 @@ ghost use mathlib.Core.Path.{_≡_};
 ghost use lib.ListN.{length};
 ghost use Rattle.storage.specs.Sizes.{zaSize};
 ghost use Rattle.storage.specs.Tile.{addTo};
-ghost use Rattle.outer.specs.Products.{dot, Shaped, Ready};
+ghost use Rattle.outer.specs.Products.{dot, sums, Shaped, Ready};
 use crate::OuterProduct;
 use crate::product::add_product32;
 use crate::product::add_product64;
@@ -13,7 +13,7 @@ pub fn update(vb: usize, o: OuterProduct, z: &[u8], p: &[u8], za: &mut [u8])
     requires { ⌜ Shaped (o .element) (o .products) ⌝ }
     requires { ⌜ Ready (o .element) vb o (now z) (now p) ⌝ }
     requires { ⌜ length (now za) ≡ zaSize vb ⌝ }
-    ensures { λ _. ⌜ now (za .exit) ≡ addTo (o .element) vb (o .tile .0) (dot (o .element) (o .products) vb o (now (z .entry)) (now (p .entry))) (now (za .entry)) ⌝ }
+    ensures { λ _. ⌜ now (za .exit) ≡ addTo (o .element) vb (o .tile .0) (sums vb o (now (z .entry)) (now (p .entry))) (now (za .entry)) ⌝ }
 {
     if o.element == 8 {
         update64(vb, o, z, p, za);

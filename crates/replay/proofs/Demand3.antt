@@ -1,7 +1,7 @@
 -- Demand 3: the claim of specs/Demand3.antt holds for every bench, all buffers and every list that it asks about.
 -- Assumes nothing.
 use mathlib.Core.Path.{_≡_, refl, sym, ap, _∙_, subst}
-use mathlib.Core.Bool.{Bool, true, false, false≢true}
+use mathlib.Core.Bool.{true, false, false≢true}
 use mathlib.Core.List.{List, [], _∷_, map, reverse, foldl, List·Mem, List·Permᴰ, List·Permᴰ·mem, Permᴰ·symm}
 use mathlib.Core.Option.{some}
 use Prim.Native.Nat.{ℕ, _/_, _<_}

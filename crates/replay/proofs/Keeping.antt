@@ -1,6 +1,6 @@
 -- What stays under outer products and ZERO: the bench, Z, P and the length of ZA, so that an answer stays too; and what tests
 -- 1 to 5 ask. Assumes nothing.
-use mathlib.Core.Path.{_≡_, _∙_, refl, sym, ap}
+use mathlib.Core.Path.{_≡_, _∙_, refl, ap}
 use mathlib.Core.List.{List, [], _∷_}
 use mathlib.Core.Option.{Option, none, some}
 use Prim.Native.Nat.{ℕ}
@@ -13,9 +13,8 @@ use Rattle.storage.proofs.Laws.{addTo-length}
 use Rattle.storage.proofs.Clearing.{clear-length}
 use Rattle.replay.specs.declared.Bench.{Bench}
 use Rattle.replay.specs.Machine.{Machine, withZa}
-use Rattle.outer.specs.declared.OuterProduct.{OuterProduct}
-use Rattle.replay.specs.Instructions.{outerOf, maskOf}
-use Rattle.replay.specs.Execution.{machineTests, refusalOf, added, cleared, effect, unless, after}
+use Rattle.replay.specs.Instructions.{maskOf}
+use Rattle.replay.specs.Execution.{machineTests, refusalOf, Addition, additionOf, added, cleared, effect, unless, after}
 use Rattle.replay.specs.Lists.{played}
 use Rattle.replay.specs.Claims.{Keeps}
 
@@ -28,16 +27,16 @@ keeps-trans k l = record { bench = l .bench ∙ k .bench; z = l .z ∙ k .z; p =
 pub za-keeps : (m : Machine) (za : List ℕ) → length za ≡ length (m .za) → Keeps m (withZa m za)
 za-keeps m za e = record { bench = refl; z = refl; p = refl; za-length = e }
 
-added-keeps : (m : Machine) (q : Option OuterProduct) → Keeps m (added m q)
+added-keeps : (m : Machine) (x : Option Addition) → Keeps m (added m x)
 added-keeps m none = keeps-refl m
-added-keeps m (some o) = za-keeps m _ (addTo-length (o .element) (m .bench .vb) (o .tile .0) _ (m .za))
+added-keeps m (some a) = za-keeps m _ (addTo-length (a .E) (m .bench .vb) (a .tile) _ (m .za))
 
 cleared-keeps : (m : Machine) (q : Option ℕ) → Keeps m (cleared m q)
 cleared-keeps m none = keeps-refl m
 cleared-keeps m (some mask) = za-keeps m _ (clear-length (m .bench .vb) mask (m .za))
 
 effect-keeps : (m : Machine) (d : Option Instruction) → Keeps m (effect m d)
-effect-keeps m d = keeps-trans (added-keeps m (outerOf d)) (cleared-keeps (added m (outerOf d)) (maskOf d))
+effect-keeps m d = keeps-trans (added-keeps m (additionOf m d)) (cleared-keeps (added m (additionOf m d)) (maskOf d))
 
 pub after-keeps : (m : Machine) (w : ℕ) → Keeps m (after m w)
 unfolding after

@@ -12,24 +12,26 @@ use borrow.Author.Tests.{eqb-true, eq-eqb, ne-eqb, ltb-true}
 use Rattle.isa.specs.Table.{elementBytes, ranges, inRange}
 use Rattle.isa.specs.Answers.{absent, describe}
 use Rattle.isa.specs.declared.Refusal.{Refusal}
-use Rattle.isa.specs.declared.Operation.{Operation}
 use Rattle.isa.specs.declared.Instruction.{Instruction}
 use Rattle.isa.specs.declared.Instruction.the-variants.{Predicated, Quarter, Zero}
 use Rattle.isa.proofs.Tests.{every-all}
+use Rattle.isa.proofs.Rows.{both}
 use Rattle.isa.proofs.Theorems.{described-is}
 use Rattle.storage.specs.Tile.{clear}
 use Rattle.outer.specs.declared.OuterProduct.{OuterProduct}
-use Rattle.outer.proofs.Negation.{dot-negated}
+use Rattle.outer.specs.Products.{Shaped, bytes32, halves64}
+use Rattle.outer.proofs.Negation.{otherWay, dot-negated}
 use Rattle.replay.specs.Machine.{Machine, withZa}
-use Rattle.replay.specs.Operands.{sumOf}
-use Rattle.replay.specs.Instructions.{outerOf, some?, isOuter, maskOf, modesOf, tileOfOuter, isTile, namesTile}
-use Rattle.replay.specs.Execution.{refusalOf, none?, accepted, added, cleared, unless, leftBy, after}
+use Rattle.replay.specs.Operands.{predicatedOuter, quarterOuter}
+use Rattle.replay.specs.Instructions.{isOuter, maskOf, modesOf, TileName, tileNamed, isTile, namesTile}
+use Rattle.replay.specs.Execution.{refusalOf, none?, accepted, Addition, outerAddition, additionOf, effect, unless, leftBy, after}
 use Rattle.replay.specs.Lists.{played}
 use Rattle.replay.specs.Exchange.{flipS, exchanged}
-use Rattle.replay.specs.Demand3.{reversed, bringsBy, total, Names, Apart}
+use Rattle.replay.specs.Demand3.{reversed, sumAt, total, Names, Apart}
 use Rattle.replay.proofs.Execution.{after-by}
 use Rattle.replay.proofs.Keeping.{za-keeps, after-keeps, kept-is, same-refusal}
 use Rattle.replay.proofs.Acts.{Act, idle, add, step, undo, Width, narrow, wide, Fit, shares, gives, given, Clean}
+use Rattle.replay.proofs.Ready.{shaped}
 use Rattle.replay.proofs.Twins.{Twin, twin}
 
 -- ---- lists on one bench, Z and P, as they go from ZA to ZA
@@ -42,89 +44,81 @@ module _ (m : Machine) where
   played-next [] za = refl
   played-next (w ∷ ws) za = ap (λ (n : Machine). played n ws) (kept-is (after-keeps (withZa m za) w)) ∙ played-next ws (next za w)
 
-both : (x y : Bool) → x && y ≡ true → (x ≡ true) × (y ≡ true)
-both true y h = (refl, h)
-both false y h = absurd (false≢true h)
+-- ---- the action of an answer and an addition; anything else that is accepted has none
+abbrev pub action : Option Refusal → Option Addition → Act
+action (some r) x = idle
+action none none = idle
+action none (some a) = add (a .E) (a .tile) (a .sum)
 
--- ---- the action of an answer and an outer product; anything else that is accepted has none
-abbrev pub action : ℕ → List ℕ → List ℕ → Option Refusal → Option OuterProduct → Act
-action vb z p (some r) q = idle
-action vb z p none none = idle
-action vb z p none (some o) = add (o .element) (o .tile .0) (sumOf vb o z p)
+abbrev tileOf : Option Addition → Option TileName
+tileOf none = none
+tileOf (some a) = some (record { E = a .E; tile = a .tile })
 
--- an outer product's elements have 4 bytes or 8
-width : (op : Operation) → Width (elementBytes op)
-width op = go (op .wide)
-  where
-    go : (b : Bool) → Width (cond b 8 4)
-    go true = wide
-    go false = narrow
+-- ---- what an instruction adds: outer products add to the tile that they name, by elements of 4 bytes or 8, and clear nothing
+shape-width : {E K : ℕ} → Shaped E K → Width E
+shape-width bytes32 = narrow
+shape-width halves64 = wide
 
-action-fits : (vb : ℕ) (z p : List ℕ) (r : Option Refusal) (d : Option Instruction) → Fit (action vb z p r (outerOf d))
-action-fits vb z p (some r) d = tt
-action-fits vb z p none none = tt
-action-fits vb z p none (some (Predicated op tile pn pm zn zm)) = width op
-action-fits vb z p none (some (Quarter op tile first second)) = width op
-action-fits vb z p none (some (Zero mask)) = tt
+module _ (m : Machine) where
+  action-fits : (r : Option Refusal) (d : Option Instruction) → Fit (action r (additionOf m d))
+  action-fits (some r) d = tt
+  action-fits none none = tt
+  action-fits none (some (Predicated op tile pn pm zn zm)) = shape-width (shaped op)
+  action-fits none (some (Quarter op tile first second)) = shape-width (shaped op)
+  action-fits none (some (Zero mask)) = tt
 
-outer-clears-nothing : (d : Option Instruction) → isOuter d ≡ true → maskOf d ≡ none
-outer-clears-nothing none h = refl
-outer-clears-nothing (some (Predicated op tile pn pm zn zm)) h = refl
-outer-clears-nothing (some (Quarter op tile first second)) h = refl
-outer-clears-nothing (some (Zero mask)) h = absurd (false≢true h)
+  names-added : (d : Option Instruction) → tileNamed d ≡ tileOf (additionOf m d)
+  names-added none = refl
+  names-added (some (Predicated op tile pn pm zn zm)) = refl
+  names-added (some (Quarter op tile first second)) = refl
+  names-added (some (Zero mask)) = refl
 
-action-does : (m : Machine) (r : Option Refusal) (q : Option OuterProduct) (c : Option ℕ)
-    → (none? r ≡ true → some? q ≡ true) → (some? q ≡ true → c ≡ none)
-    → unless r m (cleared (added m q) c) .za ≡ step (m .bench .vb) (action (m .bench .vb) (m .z) (m .p) r q) (m .za)
-action-does m (some r) q c h n = refl
-action-does m none none c h n = absurd (false≢true (h refl))
-action-does m none (some o) c h n = rw (n refl)
+  outer-adds : (d : Option Instruction) → isOuter d ≡ true → (a : Addition) × (additionOf m d ≡ some a) × (maskOf d ≡ none)
+  outer-adds none h = absurd (false≢true h)
+  outer-adds (some (Predicated op tile pn pm zn zm)) h = (_, refl, refl)
+  outer-adds (some (Quarter op tile first second)) h = (_, refl, refl)
+  outer-adds (some (Zero mask)) h = absurd (false≢true h)
 
--- the other way
-abbrev opposite : Option OuterProduct → Option OuterProduct
-opposite none = none
-opposite (some o) =
-    some (record { element = o .element; products = o .products; tile = o .tile; first = o .first; second = o .second; subtract = not (o .subtract) })
+  action-does : (r : Option Refusal) (d : Option Instruction) → (none? r ≡ true → isOuter d ≡ true)
+      → unless r m (effect m d) .za ≡ step (m .bench .vb) (action r (additionOf m d)) (m .za)
+  action-does (some r) d h = refl
+  action-does none d h = let (a, e, c) = outer-adds d (h refl) in rw (e, c)
 
-outer-reversed : (d : Option Instruction) → outerOf (reversed d) ≡ opposite (outerOf d)
-outer-reversed none = refl
-outer-reversed (some (Predicated op tile pn pm zn zm)) = refl
-outer-reversed (some (Quarter op tile first second)) = refl
-outer-reversed (some (Zero mask)) = refl
+  -- the other way
+  abbrev byProducts : OuterProduct → Act
+  byProducts o = action none (outerAddition (m .bench .vb) (m .z) (m .p) (some o))
 
-opposite-some : (q : Option OuterProduct) → some? (opposite q) ≡ some? q
-opposite-some none = refl
-opposite-some (some o) = refl
+  added-back : (o : OuterProduct) → byProducts (otherWay o) ≡ undo (byProducts o)
+  added-back o =
+      ap (add (o .element) (o .tile .0)) (fun-ext (λ row. fun-ext (λ col. dot-negated (o .element) (o .products) (m .bench .vb) o (m .z) (m .p) row col)))
 
-module _ (vb : ℕ) (z p : List ℕ) where
-  action-opposite : (q : Option OuterProduct) → action vb z p none (opposite q) ≡ undo (action vb z p none q)
-  action-opposite none = refl
-  action-opposite (some o) =
-      ap (add (o .element) (o .tile .0)) (fun-ext (λ row. fun-ext (λ col. dot-negated (o .element) (o .products) vb o z p row col)))
+  action-reversed : (d : Option Instruction) → action none (additionOf m (reversed d)) ≡ undo (action none (additionOf m d))
+  action-reversed none = refl
+  action-reversed (some (Predicated op tile pn pm zn zm)) = added-back (predicatedOuter op tile pn pm zn zm)
+  action-reversed (some (Quarter op tile first second)) = added-back (quarterOuter op tile first second)
+  action-reversed (some (Zero mask)) = refl
 
-  -- what adds to a tile names it, and the other way round
-  action-names : (E t : ℕ) (r : Option Refusal) (q : Option OuterProduct) (f : ℕ → ℕ → ℤ) → action vb z p r q ≡ add E t f
-      → (none? r ≡ true) × (isTile E t (tileOfOuter q) ≡ true)
-  action-names E t (some r) q f e = absurd (false≢true (cc))
-  action-names E t none none f e = absurd (false≢true (cc))
-  action-names E t none (some o) f e =
-      let s : o .element ≡ E = cc in
-      let i : o .tile .0 ≡ t = cc in
-      (refl, rw (eq-eqb (o .element) E s) (eq-eqb (o .tile .0) t i))
+-- what adds to a tile names it, and the other way round
+action-names : (E t : ℕ) (r : Option Refusal) (x : Option Addition) (f : ℕ → ℕ → ℤ) → action r x ≡ add E t f → (none? r ≡ true) × (isTile E t (tileOf x) ≡ true)
+action-names E t (some r) x f e = absurd (false≢true (cc))
+action-names E t none none f e = absurd (false≢true (cc))
+action-names E t none (some a) f e =
+    let s : a .E ≡ E = cc in
+    let i : a .tile ≡ t = cc in
+    (refl, rw (eq-eqb (a .E) E s) (eq-eqb (a .tile) t i))
 
-  named-action : (E t : ℕ) (r : Option Refusal) (q : Option OuterProduct) → none? r ≡ true → isTile E t (tileOfOuter q) ≡ true
-      → (f : ℕ → ℕ → ℤ) × (action vb z p r q ≡ add E t f)
-  named-action E t (some r) q a h = absurd (false≢true a)
-  named-action E t none none a h = absurd (false≢true h)
-  named-action E t none (some o) a h =
-      let (x, y) = both (eqb (o .element) E) (eqb (o .tile .0) t) h in
-      (sumOf vb o z p, ap₂ (λ (n u : ℕ). add n u (sumOf vb o z p)) (eqb-true (o .element) E x) (eqb-true (o .tile .0) t y))
+named-action : (E t : ℕ) (r : Option Refusal) (x : Option Addition) → none? r ≡ true → isTile E t (tileOf x) ≡ true → (f : ℕ → ℕ → ℤ) × (action r x ≡ add E t f)
+named-action E t (some r) x a h = absurd (false≢true a)
+named-action E t none none a h = absurd (false≢true h)
+named-action E t none (some x) a h =
+    let (i, j) = both (eqb (x .E) E) (eqb (x .tile) t) h in
+    (x .sum, ap₂ (λ (n u : ℕ). add n u (x .sum)) (eqb-true (x .E) E i) (eqb-true (x .tile) t j))
 
-  action-gives : (E t row col : ℕ) (r : Option Refusal) (q : Option OuterProduct)
-      → cond (none? r && isTile E t (tileOfOuter q)) (bringsBy vb z p row col q) (pos 0) ≡ gives E t row col (action vb z p r q)
-  action-gives E t row col (some r) q = refl
-  action-gives E t row col none none = refl
-  action-gives E t row col none (some o) = refl
+action-gives : (E t row col : ℕ) (r : Option Refusal) (x : Option Addition)
+    → cond (none? r && isTile E t (tileOf x)) (sumAt row col x) (pos 0) ≡ gives E t row col (action r x)
+action-gives E t row col (some r) x = refl
+action-gives E t row col none none = refl
+action-gives E t row col none (some a) = refl
 
 -- a named tile is one that its width has
 tile-lt : (E t : ℕ) (i : Instruction) → inRange i ≡ true → namesTile E t (some i) ≡ true → t < E
@@ -146,18 +140,17 @@ named-tile E t w h a = go (describe w) refl a
 -- ---- the words of a list, answered on the ZA that it starts from
 module _ (m : Machine) where
   abbrev pub act : ℕ → Act
-  act w = action (m .bench .vb) (m .z) (m .p) (refusalOf m w) (outerOf (describe w))
+  act w = action (refusalOf m w) (additionOf m (describe w))
 
   pub act-fits : (w : ℕ) → Fit (act w)
-  act-fits w = action-fits (m .bench .vb) (m .z) (m .p) (refusalOf m w) (describe w)
+  act-fits w = action-fits m (refusalOf m w) (describe w)
 
   module _ (za : List ℕ) (e : length za ≡ length (m .za)) (w : ℕ) where
     next-is : next m za w ≡ leftBy (withZa m za) w (refusalOf m w) .za
     next-is = ap (λ (n : Machine). n .za) (after-by (withZa m za) w (refusalOf m w) (same-refusal (za-keeps m za e) w))
 
     pub act-does : (accepted m w ≡ true → isOuter (describe w) ≡ true) → next m za w ≡ step (m .bench .vb) (act w) za
-    act-does h =
-        next-is ∙ action-does (withZa m za) (refusalOf m w) (outerOf (describe w)) (maskOf (describe w)) h (outer-clears-nothing (describe w))
+    act-does h = next-is ∙ action-does (withZa m za) (refusalOf m w) (describe w) h
 
     pub zero-does : (mask : ℕ) → accepted m w ≡ true → describe w ≡ some (Zero mask) → next m za w ≡ clear (m .bench .vb) mask za
     zero-does mask a d = next-is ∙ rw d (go (refusalOf m w) a)
@@ -168,17 +161,20 @@ module _ (m : Machine) where
 
   pub act-names : (ws : List ℕ) (w E t : ℕ) (f : ℕ → ℕ → ℤ) → List·Mem w ws → act w ≡ add E t f → Names m ws E t
   act-names ws w E t f i e =
-      let (a, n) = action-names (m .bench .vb) (m .z) (m .p) E t (refusalOf m w) (outerOf (describe w)) f e in
-      record { word = w; listed = i; accepts = a; names = n }
+      let (a, n) = action-names E t (refusalOf m w) (additionOf m (describe w)) f e in
+      record { word = w; listed = i; accepts = a; names = rw (names-added m (describe w)) n }
 
   pub names-act : (ws : List ℕ) (E t : ℕ) → (n : Names m ws E t) → (f : ℕ → ℕ → ℤ) × (act (n .word) ≡ add E t f)
   names-act ws E t n =
-      named-action (m .bench .vb) (m .z) (m .p) E t (refusalOf m (n .word)) (outerOf (describe (n .word))) (n .accepts) (n .names)
+      named-action E t (refusalOf m (n .word)) (additionOf m (describe (n .word))) (n .accepts) (rw (names-added m (describe (n .word))) at (n .names))
 
   pub total-given : (E t row col : ℕ) (ws : List ℕ) → given act E t row col ws ≡ total m E t row col ws
   total-given E t row col [] = refl
   total-given E t row col (w ∷ ws) =
-      ap₂ _+ℤ_ (sym (action-gives (m .bench .vb) (m .z) (m .p) E t row col (refusalOf m w) (outerOf (describe w)))) (total-given E t row col ws)
+      ap₂ _+ℤ_
+      (sym (action-gives E t row col (refusalOf m w) (additionOf m (describe w)))
+      ∙ ap (λ n. cond (accepted m w && isTile E t n) (sumAt row col (additionOf m (describe w))) (pos 0)) (sym (names-added m (describe w))))
+      (total-given E t row col ws)
 
   pub apart-clean : (ws : List ℕ) → Apart m ws → Clean act ws
   apart-clean ws h = record { clean = λ v w x y. go v w x y (act v) (act w) refl refl }
@@ -209,7 +205,10 @@ module _ (m : Machine) where
   reversed-modes (some (Zero mask)) = refl
 
   reversed-outer : (d : Option Instruction) → isOuter (reversed d) ≡ isOuter d
-  reversed-outer d = ap some? (outer-reversed d) ∙ opposite-some (outerOf d)
+  reversed-outer none = refl
+  reversed-outer (some (Predicated op tile pn pm zn zm)) = refl
+  reversed-outer (some (Quarter op tile first second)) = refl
+  reversed-outer (some (Zero mask)) = refl
 
   twin-answer : (w v : ℕ) → Twin (m .bench .flags) w v → refusalOf m v ≡ refusalOf m w
   unfolding refusalOf
@@ -244,12 +243,11 @@ module _ (m : Machine) where
       pub exchanged-undoes : act v ≡ undo (act w)
       exchanged-undoes = go (refusalOf m w) refl
         where
-          by : Option Refusal → Option OuterProduct → Act
-          by = action (m .bench .vb) (m .z) (m .p)
+          by : Option Refusal → Option Instruction → Act
+          by o d = action o (additionOf m d)
 
           go : (o : Option Refusal) → refusalOf m w ≡ o → act v ≡ undo (act w)
-          go (some r) e = ap₂ by (x .answer ∙ e) refl ∙ sym (ap (λ (o : Option Refusal). undo (by o (outerOf (describe w)))) e)
+          go (some r) e = ap (λ (o : Option Refusal). by o (describe v)) (x .answer ∙ e) ∙ sym (ap (λ (o : Option Refusal). undo (by o (describe w))) e)
           go none e =
-              ap₂ by (x .answer ∙ e) (ap outerOf (x .is (ap none? e)) ∙ outer-reversed (describe w))
-              ∙ action-opposite (m .bench .vb) (m .z) (m .p) (outerOf (describe w))
-              ∙ sym (ap (λ (o : Option Refusal). undo (by o (outerOf (describe w)))) e)
+              ap₂ by (x .answer ∙ e) (x .is (ap none? e)) ∙ action-reversed m (describe w)
+              ∙ sym (ap (λ (o : Option Refusal). undo (by o (describe w))) e)

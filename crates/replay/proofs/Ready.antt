@@ -1,10 +1,8 @@
 -- An instruction in range is ready to be executed on a bench that passed 1 to 5. Assumes nothing.
 use mathlib.Core.Path.{_≡_}
 use mathlib.Core.Bool.{Bool, true, false, cond}
-use mathlib.Core.List.{List}
-use Prim.Native.Nat.{ℕ, _≤_, _<_}
+use Prim.Native.Nat.{_≤_, _<_}
 use native.Mathlib.Omega.{arith}
-use lib.ListN.{length}
 use borrow.Author.Tests.{ltb-true, leb-true}
 use Rattle.isa.specs.Table.{elementBytes, productsOf, register, ranges, inRange}
 use Rattle.isa.specs.declared.Tile.{Tile}

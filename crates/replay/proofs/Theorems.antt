@@ -1,6 +1,6 @@
 -- What document 01 asks of one executed word and of a run: the claims of specs/Claims.antt hold for every input. Assumes nothing.
 use mathlib.Core.Path.{_≡_, _∙_, sym, refl, ap, subst}
-use mathlib.Core.Bool.{Bool, true, false, cond}
+use mathlib.Core.Bool.{Bool, true, false, cond, _&&_}
 use mathlib.Core.Logic.{_↔_}
 use mathlib.Core.List.{List, [], _∷_}
 use mathlib.Core.Option.{Option, none, some}
@@ -18,13 +18,17 @@ use Rattle.isa.specs.declared.Instruction.the-variants.{Predicated, Quarter, Ze
 use Rattle.isa.specs.declared.Refusal.{Refusal}
 use Rattle.isa.specs.declared.Refusal.the-variants.{ListLength}
 use Rattle.isa.proofs.Answers.{decode-passed}
+use Rattle.storage.specs.Bytes.{at}
+use Rattle.storage.specs.Tile.{clear}
+use Rattle.storage.proofs.Clearing.{clear-in, clear-out}
 use Rattle.isa.proofs.Refusals.{failure-++, number-positive}
 use Rattle.replay.specs.declared.Ended.{Ended}
 use Rattle.replay.specs.Machine.{Machine}
-use Rattle.replay.specs.Instructions.{isOuter, modesOf}
-use Rattle.replay.specs.Execution.{machineTests, wordRefusal, refusalOf, unless, after, outcomeNumber}
+use Rattle.replay.specs.Instructions.{isOuter, modesOf, hasOpposite}
+use Rattle.replay.specs.Execution.{machineTests, wordRefusal, refusalOf, none?, effect, unless, after, outcomeNumber}
 use Rattle.replay.specs.Lists.{played, mostWords, listTest, runTests, keep, before, stop, ran, runOf, runLeft}
-use Rattle.replay.specs.Claims.{executeNumber, Keeps, BenchPasses, BenchFails, Executes, NeedsModes, runNumber, runCount, Ends, Runs}
+use Rattle.replay.specs.Exchange.{flipS, exchanged}
+use Rattle.replay.specs.Claims.{executeNumber, Keeps, Clears, BenchPasses, FirstFiveOn, Executes, NeedsModes, runNumber, runCount, Ends, Runs}
 use Rattle.replay.proofs.Execution.{refusal-by, refused-by-word, after-by}
 use Rattle.replay.proofs.Keeping.{after-keeps, played-keeps, same-refusal, Alike, played-alike, same-tests}
 use Rattle.replay.proofs.Runs.{before-cons, before-none, before-end, stop-cons, stop-here, stop-end}
@@ -70,7 +74,7 @@ module _ (m : Machine) (w : ℕ) where
   executes =
       record {
         first-five =
-            subst (BenchFails m) (sym execute-is)
+            subst (FirstFiveOn m) (sym execute-is)
             (first-five (m .bench) (length (m .z)) (length (m .p)) (length (m .za)) (wordRefusal m w)
             (λ h. let l = word-number-late (m .bench) w h in omega arith));
         gives-7 = execute-later (λ l. omega arith) (λ h. word-7 (execute-word h));
@@ -131,6 +135,18 @@ run-keeps m ws = played-keeps (ran m ws) m
 
 pub same-answer : {m n : Machine} → Keeps m n → (w : ℕ) → executeNumber n w ≡ executeNumber m w
 same-answer k w = ap numberOf (same-refusal k w)
+
+pub same-exchange : {m n : Machine} → Keeps m n → (w : ℕ) → exchanged n w ≡ exchanged m w
+same-exchange k w = ap (λ o. cond (none? o && hasOpposite (describe w)) (flipS w) w) (same-refusal k w)
+
+-- ---- an accepted ZERO
+pub clears : (m : Machine) (w mask : ℕ) → executeNumber m w ≡ 0 → describe w ≡ some (Zero mask) → Clears m w mask
+clears m w mask h d =
+    let e : after m w .za ≡ clear (m .bench .vb) mask (m .za) = ap (λ (n : Machine). n .za) (executes m w .executed h ∙ ap (effect m) d) in
+    record {
+      in-mask = λ q l i. ap (λ (za : List ℕ). at za q) e ∙ clear-in (m .bench .vb) mask (m .za) q l i;
+      beside = λ q l i. ap (λ (za : List ℕ). at za q) e ∙ clear-out (m .bench .vb) mask (m .za) q l i;
+    }
 
 -- ---- a run
 -- the refusal that 7 to 10 give word n of a list, on what the words before it left
@@ -281,7 +297,7 @@ module _ (m : Machine) (ws : List ℕ) where
   pub runs : Runs m ws
   runs =
       record {
-        first-five = subst (BenchFails m) (sym run-is) (first-five (m .bench) (length (m .z)) (length (m .p)) (length (m .za)) fromSix six-late);
+        first-five = subst (FirstFiveOn m) (sym run-is) (first-five (m .bench) (length (m .z)) (length (m .p)) (length (m .za)) fromSix six-late);
         gives-6 =
             subst (λ k. (k ≡ 6) ↔ BenchPasses m × (mostWords < length ws)) (sym run-is)
             (later (m .bench) (length (m .z)) (length (m .p)) (length (m .za)) fromSix (λ l. omega arith) (λ h. is-six));

@@ -3,11 +3,13 @@ use mathlib.Core.Path.{_≡_}
 use mathlib.Core.Bool.{true, false}
 use mathlib.Core.Logic.{_↔_}
 use mathlib.Core.List.{List, [], _∷_}
-use Prim.Native.Nat.{ℕ, _≤_, _<_}
+use Prim.Native.Nat.{ℕ, _/_, _≤_, _<_}
 use lib.ListN.{length, getD, take}
 use Rattle.isa.specs.Table.{allFlags}
 use Rattle.isa.specs.Answers.{describe, decodeNumber}
 use Rattle.storage.specs.Sizes.{legal, zSize, pSize, zaSize}
+use Rattle.storage.specs.Bytes.{at}
+use Rattle.storage.specs.Tile.{masked}
 use Rattle.replay.specs.declared.Bench.{Bench}
 use Rattle.replay.specs.Machine.{Machine}
 use Rattle.replay.specs.Instructions.{isOuter, modesOf}
@@ -59,8 +61,8 @@ module _ (m : Machine) where
   abbrev pub BenchPasses : Type 0
   BenchPasses = Passes (m .bench) (length (m .z)) (length (m .p)) (length (m .za))
 
-  abbrev pub BenchFails : ℕ → Type 0
-  BenchFails number = FirstFive (m .bench) (length (m .z)) (length (m .p)) (length (m .za)) number
+  abbrev pub FirstFiveOn : ℕ → Type 0
+  FirstFiveOn number = FirstFive (m .bench) (length (m .z)) (length (m .p)) (length (m .za)) number
 
   -- a mode is on where the word needs it
   abbrev pub StreamingFits : ℕ → Type 0
@@ -69,17 +71,17 @@ module _ (m : Machine) where
   abbrev pub ZaFits : ℕ → Type 0
   ZaFits w = modesOf (describe w) .za ≡ true → m .bench .za ≡ true
 
-  -- tests 1 to 5 pass, and decode accepts the word
-  abbrev pub DecodeAccepts : ℕ → Type 0
-  DecodeAccepts w = BenchPasses × (decodeNumber (m .bench .flags) w ≡ 0)
+  -- tests 1 to 5, 7 and 8 pass: decode accepts the word
+  abbrev pub ThroughEight : ℕ → Type 0
+  ThroughEight w = BenchPasses × (decodeNumber (m .bench .flags) w ≡ 0)
 
   pub record Executes (w : ℕ) : Type 0 where
-    pub first-five : BenchFails (executeNumber m w)
+    pub first-five : FirstFiveOn (executeNumber m w)
     pub gives-7 : (executeNumber m w ≡ 7) ↔ BenchPasses × (decodeNumber (m .bench .flags) w ≡ 7)
     pub gives-8 : (executeNumber m w ≡ 8) ↔ BenchPasses × (decodeNumber (m .bench .flags) w ≡ 8)
-    pub gives-9 : (executeNumber m w ≡ 9) ↔ DecodeAccepts w × (modesOf (describe w) .streaming ≡ true) × (m .bench .sm ≡ false)
-    pub gives-10 : (executeNumber m w ≡ 10) ↔ DecodeAccepts w × StreamingFits w × (modesOf (describe w) .za ≡ true) × (m .bench .za ≡ false)
-    pub accepts : (executeNumber m w ≡ 0) ↔ DecodeAccepts w × StreamingFits w × ZaFits w
+    pub gives-9 : (executeNumber m w ≡ 9) ↔ ThroughEight w × (modesOf (describe w) .streaming ≡ true) × (m .bench .sm ≡ false)
+    pub gives-10 : (executeNumber m w ≡ 10) ↔ ThroughEight w × StreamingFits w × (modesOf (describe w) .za ≡ true) × (m .bench .za ≡ false)
+    pub accepts : (executeNumber m w ≡ 0) ↔ ThroughEight w × StreamingFits w × ZaFits w
     pub refused : (executeNumber m w ≡ 0 → ⊥) → after m w ≡ m
     pub executed : executeNumber m w ≡ 0 → after m w ≡ effect m (describe w)
 
@@ -88,9 +90,14 @@ module _ (m : Machine) where
   OuterFits w = isOuter (describe w) ≡ true → m .bench .sm ≡ true
 
   pub record NeedsModes (w : ℕ) : Type 0 where
-    pub gives-9 : (executeNumber m w ≡ 9) ↔ DecodeAccepts w × (isOuter (describe w) ≡ true) × (m .bench .sm ≡ false)
-    pub gives-10 : (executeNumber m w ≡ 10) ↔ DecodeAccepts w × OuterFits w × (m .bench .za ≡ false)
-    pub accepts : (executeNumber m w ≡ 0) ↔ DecodeAccepts w × OuterFits w × (m .bench .za ≡ true)
+    pub gives-9 : (executeNumber m w ≡ 9) ↔ ThroughEight w × (isOuter (describe w) ≡ true) × (m .bench .sm ≡ false)
+    pub gives-10 : (executeNumber m w ≡ 10) ↔ ThroughEight w × OuterFits w × (m .bench .za ≡ false)
+    pub accepts : (executeNumber m w ≡ 0) ↔ ThroughEight w × OuterFits w × (m .bench .za ≡ true)
+
+  -- ZERO's mask bit i clears the rows of 64-bit tile i; every other byte stays
+  pub record Clears (w mask : ℕ) : Type 0 where
+    pub in-mask : (q : ℕ) → q < length (m .za) → masked mask (q / m .bench .vb) ≡ true → at (after m w .za) q ≡ 0
+    pub beside : (q : ℕ) → q < length (m .za) → masked mask (q / m .bench .vb) ≡ false → at (after m w .za) q ≡ at (m .za) q
 
 -- ---- a run
 module _ (m : Machine) (ws : List ℕ) where
@@ -105,7 +112,7 @@ module _ (m : Machine) (ws : List ℕ) where
     pub leaves : left ≡ played m (take count ws)
 
   pub record Runs : Type 0 where
-    pub first-five : BenchFails m (runNumber m ws)
+    pub first-five : FirstFiveOn m (runNumber m ws)
     pub gives-6 : (runNumber m ws ≡ 6) ↔ BenchPasses m × (mostWords < length ws)
     pub not-begun : 0 < runNumber m ws → runNumber m ws ≤ 6 → (runCount m ws ≡ 0) × (runLeft m ws ≡ m)
     pub most : runCount m ws ≤ mostWords

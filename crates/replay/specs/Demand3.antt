@@ -14,10 +14,8 @@ use Rattle.storage.specs.Bytes.{at}
 use Rattle.storage.specs.Modulo.{plus}
 use Rattle.storage.specs.Tile.{inTile, element, masked}
 use Rattle.replay.specs.Machine.{Machine, withZa}
-use Rattle.outer.specs.declared.OuterProduct.{OuterProduct}
-use Rattle.replay.specs.Operands.{sumOf}
-use Rattle.replay.specs.Instructions.{outerOf, isOuter, namesTile}
-use Rattle.replay.specs.Execution.{refusalOf, accepted}
+use Rattle.replay.specs.Instructions.{isOuter, namesTile}
+use Rattle.replay.specs.Execution.{refusalOf, accepted, Addition, additionOf}
 use Rattle.replay.specs.Lists.{played}
 use Rattle.replay.specs.Claims.{executeNumber, answers}
 use Rattle.replay.specs.Exchange.{exchanged}
@@ -36,20 +34,17 @@ reversed (some (Zero m)) = some (Zero m)
 
 -- ---- tiles named and totals
 
--- the products that come to (row, col) by the pseudocode, subtracted ones negative
-abbrev pub bringsBy : ℕ → List ℕ → List ℕ → ℕ → ℕ → Option OuterProduct → ℤ
-bringsBy vb z p row col none = pos 0
-bringsBy vb z p row col (some o) = sumOf vb o z p row col
-
-abbrev pub brings : ℕ → List ℕ → List ℕ → ℕ → ℕ → Option Instruction → ℤ
-brings vb z p row col d = bringsBy vb z p row col (outerOf d)
+-- what comes to (row, col): the products by the pseudocode, subtracted ones negative
+abbrev pub sumAt : ℕ → ℕ → Option Addition → ℤ
+sumAt row col none = pos 0
+sumAt row col (some a) = a .sum row col
 
 module _ (m : Machine) where
   -- the total at (row, col) of tile t: of each accepted word of that tile, as often as it stands in the list
   abbrev pub total : ℕ → ℕ → ℕ → ℕ → List ℕ → ℤ
   total E t row col [] = pos 0
   total E t row col (w ∷ ws) =
-      cond (accepted m w && namesTile E t (describe w)) (brings (m .bench .vb) (m .z) (m .p) row col (describe w)) (pos 0) +ℤ total E t row col ws
+      cond (accepted m w && namesTile E t (describe w)) (sumAt row col (additionOf m (describe w))) (pos 0) +ℤ total E t row col ws
 
   -- an accepted word of the list names tile t of elements of E bytes
   pub record Names (ws : List ℕ) (E t : ℕ) : Type 0 where

@@ -4,6 +4,7 @@ use mathlib.Core.List.{List, [], _∷_, _++_}
 use mathlib.Core.Option.{Option, none, some}
 use Prim.Native.Nat.{ℕ}
 use lib.Dec.{eqb}
+use lib.IntN.{ℤ}
 use lib.ListN.{length}
 use Rattle.isa.specs.Refusals.{number, Test, firstFailure}
 use Rattle.isa.specs.Answers.{describe, flagsTest, listingTests}
@@ -14,7 +15,7 @@ use Rattle.storage.specs.Sizes.{legal, zSize, pSize, zaSize}
 use Rattle.storage.specs.Tile.{addTo, clear}
 use Rattle.replay.specs.Machine.{Machine, withZa}
 use Rattle.outer.specs.declared.OuterProduct.{OuterProduct}
-use Rattle.replay.specs.Operands.{sumOf}
+use Rattle.outer.specs.Products.{sums}
 use Rattle.replay.specs.Instructions.{outerOf, maskOf, modesOf}
 use Rattle.replay.specs.declared.Bench.{Bench}
 use Rattle.replay.specs.declared.Modes.{Modes}
@@ -42,52 +43,69 @@ modeTests b needs =
 abbrev pub wordTests : Bench → ℕ → List Test
 wordTests b w = listingTests (b .flags) w ++ modeTests b (modesOf (describe w))
 
--- the refusal that 7 to 10 give a word
-abbrev pub wordRefusal : Machine → ℕ → Option Refusal
-wordRefusal m w = firstFailure (wordTests (m .bench) w)
-
 -- tests 1 to 5, of what a word is executed on
 abbrev pub machineTests : Machine → List Test
 machineTests m = benchTests (m .bench) (length (m .z)) (length (m .p)) (length (m .za))
+
+-- the refusal that 7 to 10 give a word
+abbrev pub wordRefusal : Machine → ℕ → Option Refusal
+wordRefusal m w = firstFailure (wordTests (m .bench) w)
 
 -- the refusal that a word gets: tests 1 to 5, then 7 to 10
 unfoldable pub refusalOf : Machine → ℕ → Option Refusal
 refusalOf m w = firstFailure (machineTests m ++ wordTests (m .bench) w)
 
--- none of 1 to 5 and 7 to 10 applies
 abbrev pub none? : Option Refusal → Bool
 none? none = true
 none? (some r) = false
 
+-- document 01's "accepted": none of 1 to 5 and 7 to 10 applies
 abbrev pub accepted : Machine → ℕ → Bool
 accepted m w = none? (refusalOf m w)
 
--- what an accepted instruction leaves: an outer product adds to its tile, ZERO clears rows
-abbrev pub added : Machine → Option OuterProduct → Machine
-added m none = m
-added m (some o) = withZa m (addTo (o .element) (m .bench .vb) (o .tile .0) (sumOf (m .bench .vb) o (m .z) (m .p)) (m .za))
+-- ---- what an accepted instruction leaves
 
+-- sum row col comes to each element (row, col) of a tile of elements of E bytes
+pub record Addition : Type 0 where
+  pub E : ℕ
+  pub tile : ℕ
+  pub sum : ℕ → ℕ → ℤ
+
+abbrev pub outerAddition : ℕ → List ℕ → List ℕ → Option OuterProduct → Option Addition
+outerAddition vb z p none = none
+outerAddition vb z p (some o) = some (record { E = o .element; tile = o .tile .0; sum = sums vb o z p })
+
+-- what an instruction adds, if it adds to a tile
+abbrev pub additionOf : Machine → Option Instruction → Option Addition
+additionOf m d = outerAddition (m .bench .vb) (m .z) (m .p) (outerOf d)
+
+abbrev pub added : Machine → Option Addition → Machine
+added m none = m
+added m (some a) = withZa m (addTo (a .E) (m .bench .vb) (a .tile) (a .sum) (m .za))
+
+-- the rows of a mask cleared
 abbrev pub cleared : Machine → Option ℕ → Machine
 cleared m none = m
 cleared m (some mask) = withZa m (clear (m .bench .vb) mask (m .za))
 
+-- it adds to its tile or clears rows, and changes nothing else
 abbrev pub effect : Machine → Option Instruction → Machine
-effect m d = cleared (added m (outerOf d)) (maskOf d)
+effect m d = cleared (added m (additionOf m d)) (maskOf d)
 
 abbrev pub unless : {A : Type 0} → Option Refusal → A → A → A
 unless (some r) refused done = refused
 unless none refused done = done
 
--- what a word leaves, by its refusal: all as it was where there is one
+-- ---- what a word leaves, by its refusal: all as it was where there is one
 abbrev pub leftBy : Machine → ℕ → Option Refusal → Machine
 leftBy m w o = unless o m (effect m (describe w))
 
--- on a bench that passed 1 to 5
-abbrev pub wordLeft : Machine → ℕ → Machine
-wordLeft m w = leftBy m w (wordRefusal m w)
-
 unfoldable pub after : Machine → ℕ → Machine
 after m w = leftBy m w (refusalOf m w)
+
+-- the same on a bench that passed 1 to 5
+abbrev pub wordLeft : Machine → ℕ → Machine
+wordLeft m w = leftBy m w (wordRefusal m w)
 
 -- the answer, and its number in the paper
 abbrev pub outcome : Option Refusal → Outcome

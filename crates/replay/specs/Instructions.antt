@@ -3,6 +3,7 @@ use mathlib.Core.Bool.{Bool, true, false, _&&_}
 use mathlib.Core.Option.{Option, none, some}
 use Prim.Native.Nat.{ℕ}
 use lib.Dec.{eqb}
+use Rattle.isa.specs.Table.{elementBytes}
 use Rattle.isa.specs.declared.Instruction.{Instruction}
 use Rattle.isa.specs.declared.Instruction.the-variants.{Predicated, Quarter, Zero}
 use Rattle.replay.specs.declared.Modes.{Modes}
@@ -16,12 +17,12 @@ outerOf (some (Predicated op tile pn pm zn zm)) = some (predicatedOuter op tile 
 outerOf (some (Quarter op tile first second)) = some (quarterOuter op tile first second)
 outerOf (some (Zero mask)) = none
 
-abbrev pub some? : {A : Type 0} → Option A → Bool
-some? none = false
-some? (some a) = true
-
+-- whether it is one
 abbrev pub isOuter : Option Instruction → Bool
-isOuter d = some? (outerOf d)
+isOuter none = false
+isOuter (some (Predicated op tile pn pm zn zm)) = true
+isOuter (some (Quarter op tile first second)) = true
+isOuter (some (Zero mask)) = false
 
 -- the mask of 64-bit tiles whose rows it clears, if it clears any
 abbrev pub maskOf : Option Instruction → Option ℕ
@@ -52,12 +53,11 @@ pub record TileName : Type 0 where
   pub E : ℕ
   pub tile : ℕ
 
-abbrev pub tileOfOuter : Option OuterProduct → Option TileName
-tileOfOuter none = none
-tileOfOuter (some o) = some (record { E = o .element; tile = o .tile .0 })
-
 abbrev pub tileNamed : Option Instruction → Option TileName
-tileNamed d = tileOfOuter (outerOf d)
+tileNamed none = none
+tileNamed (some (Predicated op tile pn pm zn zm)) = some (record { E = elementBytes op; tile = tile .0 })
+tileNamed (some (Quarter op tile first second)) = some (record { E = elementBytes op; tile = tile .0 })
+tileNamed (some (Zero mask)) = none
 
 abbrev pub isTile : ℕ → ℕ → Option TileName → Bool
 isTile E t none = false

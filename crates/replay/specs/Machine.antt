@@ -1,4 +1,4 @@
--- What a word is executed on: the bench and the three buffers.
+-- What a word is executed on: the bench and the three buffers. A word takes it and hands it on.
 use mathlib.Core.List.{List}
 use Prim.Native.Nat.{ℕ}
 use Rattle.replay.specs.declared.Bench.{Bench}

@@ -1,8 +1,6 @@
 -- An outer product instruction as operands on a tile (document 01, "Execution").
 use mathlib.Core.Bool.{Bool}
-use mathlib.Core.List.{List}
-use Prim.Native.Nat.{ℕ, _+_}
-use lib.IntN.{ℤ}
+use Prim.Native.Nat.{_+_}
 use Rattle.isa.specs.Table.{elementBytes, productsOf}
 use Rattle.isa.specs.declared.Tile.{Tile}
 use Rattle.isa.specs.declared.Vector.{Vector}
@@ -10,7 +8,6 @@ use Rattle.isa.specs.declared.Predicate.{Predicate}
 use Rattle.isa.specs.declared.Operation.{Operation}
 use Rattle.isa.specs.declared.Source.{Source}
 use Rattle.isa.specs.declared.Source.the-variants.{One, Pair}
-use Rattle.outer.specs.Products.{dot}
 use Rattle.outer.specs.declared.Predication.the-variants.{Unpredicated, By}
 use Rattle.outer.specs.declared.Operand.{Operand}
 use Rattle.outer.specs.declared.OuterProduct.{OuterProduct}
@@ -31,6 +28,7 @@ firstOf (Pair v) = v
 abbrev pub halvesOperand : Source → Bool → Operand
 halvesOperand s unsigned = record { low = firstOf s; high = lastOf s; predication = Unpredicated; unsigned = unsigned }
 
+-- an outer product of its operation's shape and direction, on its own tile
 abbrev pub outerProduct : Operation → Tile → Operand → Operand → OuterProduct
 outerProduct op tile first second = record {
   element = elementBytes op;
@@ -46,7 +44,3 @@ predicatedOuter op tile pn pm zn zm = outerProduct op tile (governedOperand zn p
 
 abbrev pub quarterOuter : Operation → Tile → Source → Source → OuterProduct
 quarterOuter op tile first second = outerProduct op tile (halvesOperand first (op .u0)) (halvesOperand second (op .u1))
-
--- what it adds to each element (row, col) of its tile, on vectors of vb bytes
-abbrev pub sumOf : ℕ → OuterProduct → List ℕ → List ℕ → ℕ → ℕ → ℤ
-sumOf vb o z p = dot (o .element) (o .products) vb o z p

@@ -3,7 +3,7 @@ ghost use mathlib.Core.Path.{_≡_};
 ghost use mathlib.Core.Bool.{true};
 ghost use Prim.Native.Nat.{_<_};
 ghost use Rattle.isa.specs.Table.{inRange, register};
-ghost use Rattle.replay.specs.Operands.{governedOperand, lastOf, firstOf, halvesOperand, outerProduct, predicatedOuter, quarterOuter};
+ghost use Rattle.replay.specs.Operands.{governedOperand, halvesOperand, outerProduct, predicatedOuter, quarterOuter};
 use isa::Instruction;
 use isa::Operation;
 use isa::Predicate;

@@ -1,7 +1,7 @@
 -- What a legal vector length gives: rows of whole elements, and a place in ZA for each. Assumes nothing.
 use mathlib.Core.Path.{_≡_, refl}
 use mathlib.Core.Bool.{Bool, true, false, _||_}
-use mathlib.Core.List.{List}
+use mathlib.Core.List.{List, [], _∷_}
 use Prim.Native.Nat.{ℕ, _+_, _*_, _/_, _%_, _≤_, _<_}
 use native.Mathlib.Nat.{mul-le-mul, mul-le-mul-right, div-mul-le-self}
 use native.Mathlib.Omega.{arith}
@@ -9,7 +9,7 @@ use lib.Arith.{digits-lt}
 use lib.Dec.{eqb}
 use lib.ListN.{length}
 use borrow.Author.Tests.{eqb-true}
-use Rattle.storage.specs.Sizes.{legal, zaSize}
+use Rattle.storage.specs.Sizes.{legal, legalBelow, zaSize}
 use Rattle.storage.specs.Bytes.{at}
 use Rattle.storage.proofs.Tiles.{Sized}
 use Rattle.storage.proofs.Laws.{Good, Inside}
@@ -35,6 +35,10 @@ legal-length vb =
     (omega arith))
     (omega arith))
     (omega arith)
+
+-- the five lengths, and no other: a legal length is at most 256
+pub five-lengths : legalBelow 257 ≡ 256 ∷ 128 ∷ 64 ∷ 32 ∷ 16 ∷ []
+five-lengths = refl
 
 -- elements of 4 or of 8 bytes fill a row
 abbrev pub sized4 : (vb : ℕ) → Length vb → Sized 4 vb

@@ -15,31 +15,27 @@ use Rattle.isa.specs.declared.Instruction.the-variants.{Predicated, Quarter, Ze
 use Rattle.text.specs.Ascii.{ascii}
 use Rattle.text.specs.Spelling.{Text, decimal, mnemonic, suffix, tileName, predicateName, vectorName, sourceName}
 use Rattle.text.specs.Spelling.{further, tilesFrom, tilesOfMask, braced, spelling}
+use Rattle.text.specs.Claims.{OfLength}
 use Rattle.text.proofs.Texts.{name-length}
 
--- a text of at least `least` bytes and at most `most`
-pub record Between (least most : ℕ) (t : Text) : Type 0 where
-  pub low : least ≤ length t
-  pub high : length t ≤ most
-
-joined : {a b m n : ℕ} {s t : Text} → Between a m s → Between b n t → Between (a + b) (m + n) (s ++ t)
+joined : {a b m n : ℕ} {s t : Text} → OfLength a m s → OfLength b n t → OfLength (a + b) (m + n) (s ++ t)
 joined {s = s} {t = t} p q = record { low = omega (arith, length-append s t); high = omega (arith, length-append s t) }
 
-either : {a m : ℕ} {s t : Text} (b : Bool) → Between a m s → Between a m t → Between a m (cond b s t)
+either : {a m : ℕ} {s t : Text} (b : Bool) → OfLength a m s → OfLength a m t → OfLength a m (cond b s t)
 either true p q = p
 either false p q = q
 
-within : {a b m n : ℕ} {t : Text} → Between a m t → b ≤ a → m ≤ n → Between b n t
+within : {a b m n : ℕ} {t : Text} → OfLength a m t → b ≤ a → m ≤ n → OfLength b n t
 within p h k = record { low = omega arith; high = omega arith }
 
-decimal-between : (n : ℕ) → Between 1 2 (decimal n)
+decimal-between : (n : ℕ) → OfLength 1 2 (decimal n)
 decimal-between n = either (ltb n 10) (record { low = omega arith; high = omega arith }) (record { low = omega arith; high = omega arith })
 
 -- ---- the parts
-literal : (t : Text) → Between (length t) (length t) t
+literal : (t : Text) → OfLength (length t) (length t) t
 literal t = record { low = omega arith; high = omega arith }
 
-mnemonic-between : (stem : Text) (op : Operation) → length stem ≤ 4 → Between 2 7 (mnemonic stem op)
+mnemonic-between : (stem : Text) (op : Operation) → length stem ≤ 4 → OfLength 2 7 (mnemonic stem op)
 mnemonic-between stem op h =
     within
     (joined
@@ -53,7 +49,7 @@ mnemonic-between stem op h =
     (omega arith)
 
 -- a register's name: what leads up to its number, and a suffix of two bytes
-name-between : (lead mark : Text) (n : ℕ) → length lead ≤ 2 → length mark ≡ 2 → Between 2 6 (lead ++ decimal n ++ mark)
+name-between : (lead mark : Text) (n : ℕ) → length lead ≤ 2 → length mark ≡ 2 → OfLength 2 6 (lead ++ decimal n ++ mark)
 name-between lead mark n h e = within (joined (joined (literal lead) (decimal-between n)) (literal mark)) (omega arith) (omega arith)
 
 suffix-length : (bytes : ℕ) → length (suffix bytes) ≡ 2
@@ -65,13 +61,13 @@ suffix-length bytes = go (eqb bytes 1) (eqb bytes 2) (eqb bytes 4)
     go false false true = refl
     go false false false = refl
 
-tile-between : (bytes n : ℕ) → Between 2 6 (tileName bytes (record { 0 = n }))
+tile-between : (bytes n : ℕ) → OfLength 2 6 (tileName bytes (record { 0 = n }))
 tile-between bytes n = name-between (ascii "za") (suffix bytes) n (omega arith) (suffix-length bytes)
 
-vector-between : (bytes n : ℕ) → Between 2 6 (vectorName bytes n)
+vector-between : (bytes n : ℕ) → OfLength 2 6 (vectorName bytes n)
 vector-between bytes n = name-between (ascii "z") (suffix bytes) n (omega arith) (suffix-length bytes)
 
-source-between : (bytes : ℕ) (s : Source) → Between 2 17 (sourceName bytes s)
+source-between : (bytes : ℕ) (s : Source) → OfLength 2 17 (sourceName bytes s)
 source-between bytes (One v) = within (vector-between bytes (v .0)) (omega arith) (omega arith)
 source-between bytes (Pair v) =
     let name = vector-between bytes in
@@ -92,7 +88,7 @@ further-tiles (suc k) i m h = go (eqb (m / 2 ^ i % 2) 1) (further-tiles k (i + 1
         omega (arith, l, name-length i (omega arith))
     go false r = omega arith
 
-braced-between : (ts : List Text) → length (further ts) ≤ 56 → Between 2 58 (braced ts)
+braced-between : (ts : List Text) → length (further ts) ≤ 56 → OfLength 2 58 (braced ts)
 braced-between [] h = within (literal (ascii "{}")) (omega arith) (omega arith)
 braced-between (t ∷ ts) h =
     let l = length-append (ascii ", " ++ t) (further ts) in
@@ -100,19 +96,19 @@ braced-between (t ∷ ts) h =
     let s = length-append t (further ts) in
     record { low = omega arith; high = omega arith }
 
-predicate-between : (n : ℕ) → Between 2 6 (predicateName (record { 0 = n }))
+predicate-between : (n : ℕ) → OfLength 2 6 (predicateName (record { 0 = n }))
 predicate-between n = name-between (ascii "p") (ascii "/m") n (omega arith) refl
 
 -- one operand more
-more : {a b m n : ℕ} {t rest : Text} → Between a m t → Between b n rest → Between (2 + a + b) (2 + m + n) (ascii ", " ++ t ++ rest)
+more : {a b m n : ℕ} {t rest : Text} → OfLength a m t → OfLength b n rest → OfLength (2 + a + b) (2 + m + n) (ascii ", " ++ t ++ rest)
 more p q = joined (joined (literal (ascii ", ")) p) q
 
 -- a mnemonic, a space and operands
-line : {a b m n : ℕ} {s t : Text} → Between a m s → Between b n t → m + 1 + n ≤ 63 → Between 1 63 (s ++ ascii " " ++ t)
+line : {a b m n : ℕ} {s t : Text} → OfLength a m s → OfLength b n t → m + 1 + n ≤ 63 → OfLength 1 63 (s ++ ascii " " ++ t)
 line p q h = within (joined (joined p (literal (ascii " "))) q) (omega arith) (omega arith)
 
 -- no line is empty, and none is longer than 63 bytes
-pub line-between : (i : Instruction) → Between 1 63 (spelling i)
+pub line-between : (i : Instruction) → OfLength 1 63 (spelling i)
 unfolding spelling
 line-between (Predicated op tile pn pm zn zm) =
     let v = vector-between (sourceBytes op) in

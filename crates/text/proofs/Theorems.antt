@@ -22,9 +22,9 @@ use Rattle.isa.proofs.Answers.{decode-refused}
 use Rattle.text.specs.Spelling.{spelling}
 use Rattle.text.specs.Put.{printedIn, filledWith}
 use Rattle.text.specs.Printing.{textOf, printedNumber, printedLength, printNumber, printLength, roomAfter}
-use Rattle.text.specs.Claims.{Holds, Prints}
+use Rattle.text.specs.Claims.{OfLength, Holds, Prints}
 use Rattle.text.proofs.Rooms.{accepted-text, print-accepted, room-accepted, print-refused, room-refused}
-use Rattle.text.proofs.Lengths.{Between, line-between}
+use Rattle.text.proofs.Lengths.{line-between}
 
 -- decode refuses with 1, 7 or 8: with a number that print gives nothing else
 decode-number : (flags w : ℕ) (r : Refusal) → decodeOf flags w ≡ NotDecoded r → (0 < number r) × (number r < 12)
@@ -41,7 +41,7 @@ decode-number flags w r p = go (ltb allFlags flags) (absent (describe w)) (not (
 
 -- the three outcomes, by decode's number, print's number, the length, and what the room then holds
 data Outcome (t room : List ℕ) : ℕ → ℕ → ℕ → List ℕ → Type 0 where
-  fits : length t ≤ length room → Between 1 63 t → Outcome t room 0 0 (length t) (t ++ drop (length t) room)
+  fits : length t ≤ length room → OfLength 1 63 t → Outcome t room 0 0 (length t) (t ++ drop (length t) room)
   short : length room < length t → Outcome t room 0 12 0 room
   refused : {k : ℕ} → 0 < k → k < 12 → Outcome t room k k 0 room
 
@@ -89,7 +89,7 @@ OutcomeOf flags w room =
 outcome : (flags w : ℕ) (room : List ℕ) → OutcomeOf flags w room
 outcome flags w room = by-answer (decodeOf flags w) refl
   where
-    by-room : (i : Instruction) (b : Bool) → ltb (length room) (length (spelling i)) ≡ b → Between 1 63 (spelling i)
+    by-room : (i : Instruction) (b : Bool) → ltb (length room) (length (spelling i)) ≡ b → OfLength 1 63 (spelling i)
         → Outcome (spelling i) room 0 (printedNumber (printedIn i (length room))) (printedLength (printedIn i (length room))) (filledWith i room)
     by-room i true q l = rw q (short (ltb-true (length room) (length (spelling i)) q))
     by-room i false q l = rw q (fits (ltb-false (length room) (length (spelling i)) q) l)

@@ -8,6 +8,11 @@ use Rattle.isa.specs.Answers.{decodeNumber}
 use Rattle.text.specs.Spelling.{Text}
 use Rattle.text.specs.Printing.{textOf, printNumber, printLength, roomAfter}
 
+-- a text of at least `least` bytes and at most `most`
+pub record OfLength (least most : ℕ) (t : Text) : Type 0 where
+  pub low : least ≤ length t
+  pub high : length t ≤ most
+
 -- a text of n bytes is at the start of a room, and the bytes after it are as they were
 pub record Holds (t : Text) (n : ℕ) (before after : List ℕ) : Type 0 where
   pub whole : n ≡ length t
