@@ -15,12 +15,17 @@ use std::time::Instant;
 /// Words for each rate.
 const WORDS: u64 = 200_000;
 
+/// A predicate byte that has every second pair of bits set: half of the elements are active, of one byte or of two.
+const HALF: u8 = 0x33;
+
 /// Prints one table: the runs first, then the rates.
 fn main() {
     println!("{:<26}{:>12}{:>16}{:>8}", "", "library", "ordinary Rust", "ratio");
-    for (vb, rounds) in [(16, 500), (256, 50)] {
-        let times = run(vb, rounds);
-        row(&format!("run, 4096 words, VB {vb}"), "ms", times.map(|seconds| seconds * 1e3));
+    for (vb, rounds) in [(16, 500), (64, 200), (256, 50)] {
+        for (active, predicates) in [("all", 0xFF), ("half", HALF)] {
+            let times = run(vb, rounds, predicates);
+            row(&format!("run, VB {vb}, {active} active"), "ms", times.map(|seconds| seconds * 1e3));
+        }
     }
     let random = &mut Random::new(1);
     let listed: Vec<u32> = (0..WORDS).map(|_| sample::listed(random)).collect();
@@ -49,10 +54,10 @@ fn words() -> Vec<u32> {
     [0xC008_00FF].into_iter().chain(products).collect()
 }
 
-/// Times both runs of the list with all predicate bits set, and makes sure that they end alike.
-fn run(vb: usize, rounds: usize) -> [f64; 2] {
+/// Times both runs of the list, with the same byte throughout the predicates, and makes sure that they end alike.
+fn run(vb: usize, rounds: usize, predicates: u8) -> [f64; 2] {
     let z: Vec<u8> = (0..32 * vb).map(|i| (i % 251) as u8).collect();
-    let p = vec![0xFF; 2 * vb];
+    let p = vec![predicates; 2 * vb];
     let (mut za, mut ordinary_za) = (vec![0xA5; vb * vb], vec![0xA5; vb * vb]);
     let words = words();
     let bench = Bench { flags: 7, streaming: true, za_on: true, vb };

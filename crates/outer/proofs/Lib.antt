@@ -1,7 +1,10 @@
 pub mod Sizes
 pub mod Signed
-pub mod Products
-pub mod Bounds
 pub mod Progress
+pub mod Shapes
+pub mod Elements
+pub mod Arrays
+pub mod Parts
+pub mod Bounds
 pub mod Rows
 pub mod Negation

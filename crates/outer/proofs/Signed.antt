@@ -1,126 +1,85 @@
--- Signed machine arithmetic over the width. A signed local holds bits, so its value x is read back as `toZ w (ofZ w x)`.
--- Assumes nothing.
+-- Signed machine arithmetic. A signed local holds bits, so its value x is read back as `toZ w (ofZ w x)`. Assumes nothing.
 use mathlib.Core.Bool.{Bool, true, false}
 use mathlib.Core.Path.{_≡_, refl, sym, ap, _∙_, subst}
 use Prim.Native.Nat.{ℕ, zero, suc, _+_, _-_, _*_, _/_, _%_, _^_, _≤_, _<_, zero-le}
-use native.Mathlib.Nat.{le-refl, le-trans, mul-le-mul, not-suc-le-zero, lt-of-lt-of-le, add-mod-mod}
+use native.Mathlib.Nat.{le-trans, mul-le-mul, not-suc-le-zero, add-mod-mod}
 use native.Mathlib.Omega.{arith}
-use lib.IntN.{ℤ, pos, negsuc, negℤ, natAbs, _-ℤ_, _*ℤ_, +ℤ-idl, +ℤ-invr}
+use lib.IntN.{ℤ, pos, negsuc, negℤ, natAbs, _-ℤ_, _*ℤ_, +ℤ-idl, +ℤ-invr, negℤ-negℤ, *ℤ-zero, *ℤ-negsuc}
 use lib.Signed.{mag, ltZ, nonNeg}
-use lib.Dec.{T}
-use mir.Syntax.{Width, w8, w16, w32, w64, w128}
-use mir.Val.{Fits, SFits, toZ, ofZ, bits, hbits, bytes}
-use mir.ValLaws.{half-full, pow-bits}
+use lib.Dec.{T, lit≤}
+use mir.Syntax.{Width, w32, w64}
+use mir.Val.{Fits, SFits, toZ, ofZ, hbits}
 use mir.Facts.{toZ-pos, toZ-ofZ}
 use borrow.Author.Tests.{lt-ltb, le-ltb, ltb-true}
 use Rattle.storage.specs.Modulo.{modZ, plus}
 use Rattle.storage.proofs.Modulo.{plus-nil, plus-plus}
 use Rattle.outer.specs.Products.{interpret, directed}
+use Rattle.outer.specs.Walks.{ByteOrHalf, byte, half}
 
--- ---- a source element of B bytes, read at a wider signed type v
+-- ---- a number of B bytes, read as an i32
 
-pub record Narrow (B : ℕ) (v : Width) (n : ℕ) : Type 0 where
-  pub below : n < 256 ^ B
-  pub wide : 256 ^ B ≤ 2 ^ hbits v
+-- it fits
+pub half-small : {B : ℕ} → ByteOrHalf B → 256 ^ B ≤ 65536
+half-small byte = lit≤ tt
+half-small half = lit≤ tt
 
-module _ {B : ℕ} {v : Width} {n : ℕ} (h : Narrow B v n) where
-  reads : toZ v n ≡ pos n
-  reads = toZ-pos v (lt-of-lt-of-le (h .below) (h .wide))
+-- twice the half is the whole
+doubled : {B : ℕ} → ByteOrHalf B → 2 * (256 ^ B / 2) ≡ 256 ^ B
+doubled byte = refl
+doubled half = refl
 
-  -- the upper half, less the power
-  high-is : toZ v n -ℤ pos (256 ^ B) ≡ negsuc (256 ^ B - suc n)
-  high-is = rw reads (go (256 ^ B) (h .below))
-    where
-      go : (N : ℕ) → n < N → pos n -ℤ pos N ≡ negsuc (N - suc n)
-      go zero l = absurd (not-suc-le-zero l)
-      go (suc m) l = rw (lt-ltb n (suc m) l)
+module _ {B n : ℕ} (u : ByteOrHalf B) (below : n < 256 ^ B) where
+  pub number-fits : SFits w32 (pos n)
+  number-fits = record { sfits = omega (arith, below, half-small u) }
 
-  pub high-fits : SFits v (toZ v n -ℤ pos (256 ^ B))
-  high-fits = rw high-is (record { sfits = omega (arith, h .below, h .wide) })
+  reads : toZ w32 n ≡ pos n
+  reads = toZ-pos w32 (omega (arith, below, half-small u))
 
-  pub read-unsigned : {u : Bool} → u ≡ true → (toZ v n ≡ interpret B u n) × (mag (toZ v n) < 256 ^ B)
-  read-unsigned e = rw (e, reads) (refl, h .below)
+  pub read-unsigned : {t : Bool} → t ≡ true → (toZ w32 n ≡ interpret B t n) × (mag (toZ w32 n) < 256 ^ B)
+  read-unsigned e = rw (e, reads) (refl, below)
 
-  pub read-low : {u : Bool} → u ≡ false → n < 256 ^ B / 2 → (toZ v n ≡ interpret B u n) × (mag (toZ v n) < 256 ^ B)
-  read-low e l = rw (e, reads, lt-ltb n (256 ^ B / 2) l) (refl, h .below)
+  pub read-low : {t : Bool} → t ≡ false → n < 256 ^ B / 2 → (toZ w32 n ≡ interpret B t n) × (mag (toZ w32 n) < 256 ^ B)
+  read-low e l = rw (e, reads, lt-ltb n (256 ^ B / 2) l) (refl, below)
 
-  pub read-high : {u : Bool} → u ≡ false → 256 ^ B / 2 ≤ n
-      → (toZ v (ofZ v (toZ v n -ℤ pos (256 ^ B))) ≡ interpret B u n) × (mag (toZ v (ofZ v (toZ v n -ℤ pos (256 ^ B)))) < 256 ^ B)
-  read-high e l = rw (toZ-ofZ high-fits, high-is, e, le-ltb n (256 ^ B / 2) l) (refl, omega (arith, h .below))
+  module _ {h : ℕ} (e : h ≡ 256 ^ B / 2) where
+    pub half-fits : SFits w32 (pos h)
+    half-fits = record { sfits = omega (arith, half-small u) }
 
--- ---- the sign's test, the negation and the casts that they allow, and the wrapping sums and differences as `plus`
+    whole : pos 2 *ℤ toZ w32 h ≡ pos (256 ^ B)
+    whole = rw (toZ-pos w32 {n = h} (omega (arith, half-small u)), e) (ap pos (doubled u))
 
-pow-bytes : (w : Width) → 256 ^ bytes w ≡ 2 ^ bits w
-pow-bytes w8 = refl
-pow-bytes w16 = refl
-pow-bytes w32 = refl
-pow-bytes w64 = refl
-pow-bytes w128 = refl
+    pub whole-fits : SFits w32 (pos 2 *ℤ toZ w32 h)
+    whole-fits = rw whole (record { sfits = omega (arith, half-small u) })
+
+    -- the upper half, less the power
+    high-is : toZ w32 n -ℤ toZ w32 (ofZ w32 (pos 2 *ℤ toZ w32 h)) ≡ negsuc (256 ^ B - suc n)
+    high-is = rw (toZ-ofZ whole-fits, whole, reads) (go (256 ^ B) below)
+      where
+        go : (N : ℕ) → n < N → pos n -ℤ pos N ≡ negsuc (N - suc n)
+        go zero l = absurd (not-suc-le-zero l)
+        go (suc m) l = rw (lt-ltb n (suc m) l)
+
+    pub high-fits : SFits w32 (toZ w32 n -ℤ toZ w32 (ofZ w32 (pos 2 *ℤ toZ w32 h)))
+    high-fits = rw high-is (record { sfits = omega (arith, below, half-small u) })
+
+    abbrev high : ℤ
+    high = toZ w32 (ofZ w32 (toZ w32 n -ℤ toZ w32 (ofZ w32 (pos 2 *ℤ toZ w32 h))))
+
+    pub read-high : {t : Bool} → t ≡ false → h ≤ n → (high ≡ interpret B t n) × (mag high < 256 ^ B)
+    read-high f l = rw (toZ-ofZ high-fits, high-is, f, le-ltb n (256 ^ B / 2) (omega (arith, e))) (refl, omega (arith, below))
+
+-- and read back
+pub read-back : (x : ℤ) → mag x ≤ 65536 → toZ w32 (ofZ w32 x) ≡ x
+read-back x h = toZ-ofZ (record { sfits = omega arith })
+
+pub back-small : {N : ℕ} (x : ℤ) → N ≤ 65536 → mag x ≤ N → mag (toZ w32 (ofZ w32 x)) ≤ N
+back-small x l h = rw (read-back x (omega arith)) h
+
+-- ---- a product, as an i32 or, of factors cast, as an i64
 
 mag-neg-pos : (n : ℕ) → mag (negℤ (pos n)) ≤ n
 mag-neg-pos zero = zero-le
 mag-neg-pos (suc n) = omega arith
-
-mag-neg : (z : ℤ) → mag (negℤ z) ≤ suc (mag z)
-mag-neg (pos n) = omega (arith, mag-neg-pos n)
-mag-neg (negsuc n) = omega arith
-
-negative : (w : Width) (z : ℤ) → SFits w z → ltZ z (pos 0) ≡ true → T (nonNeg (negℤ z)) × Fits w (natAbs (negℤ z)) × (negℤ (pos (natAbs (negℤ z))) ≡ z)
-negative w (pos n) f e = let h : n < 0 = ltb-true n 0 e in absurd (not-suc-le-zero h)
-negative w (negsuc n) f e = (tt, record { fits = omega (arith, f .sfits, pow-bits w) }, refl)
-
-other : (w : Width) (z : ℤ) → SFits w z → ltZ z (pos 0) ≡ false → T (nonNeg z) × Fits w (natAbs z) × (pos (natAbs z) ≡ z)
-other w (pos n) f e = (tt, record { fits = half-full w (f .sfits) }, refl)
-other w (negsuc n) f e = let q : true ≡ false = e in absurd (subst T q tt)
-
--- what the wrapping operations' contracts say
-plus-pos : (E x n : ℕ) → (x + n) % 256 ^ E ≡ plus E x (pos n)
-unfolding plus modZ
-plus-pos E x n = sym (add-mod-mod x n (256 ^ E))
-
-plus-neg : (E x n r : ℕ) → r < 256 ^ E → (r + n) % 256 ^ E ≡ x → r ≡ plus E x (negℤ (pos n))
-plus-neg E x n r h e =
-    sym (plus-nil E r h) ∙ ap (plus E r) (sym (+ℤ-invr (pos n))) ∙ sym (plus-plus E r (pos n) (negℤ (pos n)))
-    ∙ ap (λ (y : ℕ). plus E y (negℤ (pos n))) (sym (plus-pos E r n) ∙ e)
-
--- z and its negation fit
-pub record Negatable (w : Width) (z : ℤ) : Type 0 where
-  pub room : suc (mag z) < 2 ^ hbits w
-
-module _ {w : Width} {z : ℤ} (n : Negatable w z) where
-  plain-fits : SFits w z
-  plain-fits = record { sfits = omega (arith, n .room) }
-
-  minus-fits : SFits w (negℤ z)
-  minus-fits = record { sfits = omega (arith, n .room, mag-neg z) }
-
-  pub negation-fits : SFits w (pos 0 -ℤ toZ w (ofZ w z))
-  negation-fits = rw (toZ-ofZ plain-fits, +ℤ-idl) minus-fits
-
-  pub negation-is : toZ w (ofZ w (pos 0 -ℤ toZ w (ofZ w z))) ≡ negℤ z
-  negation-is = toZ-ofZ negation-fits ∙ rw (toZ-ofZ plain-fits, +ℤ-idl)
-
-  pub negation-cast : ltZ (toZ w (ofZ w z)) (pos 0) ≡ true
-      → T (nonNeg (toZ w (ofZ w (pos 0 -ℤ toZ w (ofZ w z))))) × Fits w (natAbs (toZ w (ofZ w (pos 0 -ℤ toZ w (ofZ w z)))))
-  negation-cast e =
-      let g = negative w z plain-fits (rw (toZ-ofZ plain-fits) at e) in
-      rw negation-is (g .0, g .1)
-
-  pub taken : (sum r : ℕ) → ltZ (toZ w (ofZ w z)) (pos 0) ≡ true → r < 2 ^ bits w
-      → (r + natAbs (toZ w (ofZ w (pos 0 -ℤ toZ w (ofZ w z))))) % 2 ^ bits w ≡ sum → r ≡ plus (bytes w) sum z
-  taken sum r e h q =
-      plus-neg (bytes w) sum (natAbs (negℤ z)) r (rw (pow-bytes w) h) (rw (pow-bytes w, ← negation-is) q)
-      ∙ ap (plus (bytes w) sum) (negative w z plain-fits (rw (toZ-ofZ plain-fits) at e) .2)
-
-  pub plain-cast : ltZ (toZ w (ofZ w z)) (pos 0) ≡ false → T (nonNeg (toZ w (ofZ w z))) × Fits w (natAbs (toZ w (ofZ w z)))
-  plain-cast e = let g = other w z plain-fits (rw (toZ-ofZ plain-fits) at e) in rw (toZ-ofZ plain-fits) (g .0, g .1)
-
-  pub added : (sum : ℕ) → ltZ (toZ w (ofZ w z)) (pos 0) ≡ false → (sum + natAbs (toZ w (ofZ w z))) % 2 ^ bits w ≡ plus (bytes w) sum z
-  added sum e =
-      let g = other w z plain-fits (rw (toZ-ofZ plain-fits) at e) in
-      rw (toZ-ofZ plain-fits, ← pow-bytes w) (plus-pos (bytes w) sum (natAbs z)) ∙ ap (plus (bytes w) sum) (g .2)
-
--- ---- a product of two numbers below H in magnitude, and its negation
 
 mag-mul : (x y : ℤ) → mag (x *ℤ y) ≤ suc (mag x) * suc (mag y)
 mag-mul (pos a) (pos b) = mul-le-mul (omega arith) (omega arith)
@@ -128,43 +87,115 @@ mag-mul (pos a) (negsuc b) = le-trans (mag-neg-pos (a * suc b)) (mul-le-mul (ome
 mag-mul (negsuc a) (pos b) = le-trans (mag-neg-pos (suc a * b)) (mul-le-mul (omega arith) (omega arith))
 mag-mul (negsuc a) (negsuc b) = mul-le-mul (omega arith) (omega arith)
 
--- a product, and its negation, have magnitudes below N
-pub record Factors (w : Width) (H N : ℕ) (x y : ℤ) : Type 0 where
-  pub left : mag x < H
-  pub right : mag y < H
-  pub bound : suc (H * H) < N
-  pub room : N ≤ 2 ^ hbits w
+product-small : {H : ℕ} (x y : ℤ) → mag x ≤ H → mag y ≤ H → mag (x *ℤ y) ≤ suc H * suc H
+product-small x y h k = le-trans (mag-mul x y) (mul-le-mul (omega arith) (omega arith))
 
-module _ {w : Width} {H N : ℕ} {x y : ℤ} (f : Factors w H N x y) where
-  small : suc (mag (x *ℤ y)) < N
-  small = let m : mag (x *ℤ y) ≤ H * H = le-trans (mag-mul x y) (mul-le-mul (f .left) (f .right)) in omega (arith, f .bound)
+abbrev pub x32 : ℤ → ℤ
+x32 x = toZ w32 (ofZ w32 x)
 
-  factor-fits : (z : ℤ) → mag z < H → SFits w z
-  factor-fits z h = let m : 1 * H ≤ H * H = mul-le-mul (omega arith) (le-refl H) in record { sfits = omega (arith, f .bound, f .room) }
+abbrev pub x64 : ℤ → ℤ
+x64 x = toZ w64 (ofZ w64 x)
 
-  factors-are : toZ w (ofZ w x) *ℤ toZ w (ofZ w y) ≡ x *ℤ y
-  factors-are = rw (toZ-ofZ (factor-fits x (f .left)), toZ-ofZ (factor-fits y (f .right)))
+-- r is what it should be, and small
+abbrev pub Product : ℤ → ℤ → ℤ → Type 0
+Product x y r = (r ≡ x *ℤ y) × (mag r < 0x200000000)
 
-  pub product-negatable : Negatable w (toZ w (ofZ w x) *ℤ toZ w (ofZ w y))
-  product-negatable = rw factors-are (record { room = omega (arith, small, f .room) })
+module _ (x y : ℤ) (h : (mag x ≤ 256) × (mag y ≤ 256)) where
+  bytes-are : x32 x *ℤ x32 y ≡ x *ℤ y
+  bytes-are = rw (read-back x (omega (arith, h .0)), read-back y (omega (arith, h .1)))
 
-  pub product-fits : SFits w (toZ w (ofZ w x) *ℤ toZ w (ofZ w y))
-  product-fits = plain-fits product-negatable
+  pub bytes-fit : SFits w32 (x32 x *ℤ x32 y)
+  bytes-fit = rw bytes-are (record { sfits = omega (arith, product-small x y (h .0) (h .1)) })
 
-  product-is : toZ w (ofZ w (toZ w (ofZ w x) *ℤ toZ w (ofZ w y))) ≡ x *ℤ y
-  product-is = toZ-ofZ product-fits ∙ factors-are
+  bytes-back : x32 (x32 x *ℤ x32 y) ≡ x *ℤ y
+  bytes-back = toZ-ofZ bytes-fit ∙ bytes-are
 
-  negated-is : toZ w (ofZ w (pos 0 -ℤ toZ w (ofZ w (toZ w (ofZ w x) *ℤ toZ w (ofZ w y))))) ≡ negℤ (x *ℤ y)
-  negated-is = negation-is product-negatable ∙ ap negℤ factors-are
+  pub bytes-cast : SFits w64 (x32 (x32 x *ℤ x32 y))
+  bytes-cast = rw bytes-back (record { sfits = omega (arith, product-small x y (h .0) (h .1)) })
 
-  pub product-small : mag (toZ w (ofZ w (toZ w (ofZ w x) *ℤ toZ w (ofZ w y)))) < N
-  product-small = rw product-is (omega (arith, small))
+  pub bytes-product : Product x y (x64 (x32 (x32 x *ℤ x32 y)))
+  bytes-product = rw (toZ-ofZ bytes-cast, bytes-back) (refl, omega (arith, product-small x y (h .0) (h .1)))
 
-  pub negated-small : mag (toZ w (ofZ w (pos 0 -ℤ toZ w (ofZ w (toZ w (ofZ w x) *ℤ toZ w (ofZ w y)))))) < N
-  negated-small = rw negated-is (omega (arith, small, mag-neg (x *ℤ y)))
+pub cast-fits : (x : ℤ) → mag x ≤ 65536 → SFits w64 (x32 x)
+cast-fits x h = rw (read-back x h) (record { sfits = omega arith })
 
-  pub product-directed : {t : Bool} → t ≡ false → toZ w (ofZ w (toZ w (ofZ w x) *ℤ toZ w (ofZ w y))) ≡ directed t (x *ℤ y)
-  product-directed e = rw e product-is
+module _ (x y : ℤ) (h : (mag x ≤ 65536) × (mag y ≤ 65536)) where
+  halves-are : x64 (x32 x) *ℤ x64 (x32 y) ≡ x *ℤ y
+  halves-are = rw (toZ-ofZ (cast-fits x (h .0)), toZ-ofZ (cast-fits y (h .1)), read-back x (h .0), read-back y (h .1))
 
-  pub negated-directed : {t : Bool} → t ≡ true → toZ w (ofZ w (pos 0 -ℤ toZ w (ofZ w (toZ w (ofZ w x) *ℤ toZ w (ofZ w y))))) ≡ directed t (x *ℤ y)
-  negated-directed e = rw e negated-is
+  pub halves-fit : SFits w64 (x64 (x32 x) *ℤ x64 (x32 y))
+  halves-fit = rw halves-are (record { sfits = omega (arith, product-small x y (h .0) (h .1)) })
+
+  pub halves-product : Product x y (x64 (x64 (x32 x) *ℤ x64 (x32 y)))
+  halves-product = rw (toZ-ofZ halves-fit, halves-are) (refl, omega (arith, product-small x y (h .0) (h .1)))
+
+-- of a negated factor the product is negated
+pub *ℤ-directed : (t : Bool) (x y : ℤ) → x *ℤ directed t y ≡ directed t (x *ℤ y)
+*ℤ-directed false x y = refl
+*ℤ-directed true x y = go y
+  where
+    go : (y : ℤ) → x *ℤ negℤ y ≡ negℤ (x *ℤ y)
+    go (pos zero) = *ℤ-zero x ∙ sym (ap negℤ (*ℤ-zero x))
+    go (pos (suc n)) = *ℤ-negsuc x n
+    go (negsuc n) = sym (ap negℤ (*ℤ-negsuc x n) ∙ negℤ-negℤ (x *ℤ pos (suc n)))
+
+-- ---- the sign's test, the negation and the casts that they allow
+
+pub mag-neg : (z : ℤ) → mag (negℤ z) ≤ suc (mag z)
+mag-neg (pos n) = omega (arith, mag-neg-pos n)
+mag-neg (negsuc n) = omega arith
+
+module _ (w : Width) (z : ℤ) (room : suc (mag z) < 2 ^ hbits w) where
+  pub bits-back : toZ w (ofZ w z) ≡ z
+  bits-back = toZ-ofZ (record { sfits = omega (arith, room) })
+
+  pub negation-fits : SFits w (pos 0 -ℤ toZ w (ofZ w z))
+  negation-fits = rw (bits-back, +ℤ-idl) (record { sfits = omega (arith, room, mag-neg z) })
+
+  pub negation-is : toZ w (ofZ w (pos 0 -ℤ toZ w (ofZ w z))) ≡ negℤ z
+  negation-is = toZ-ofZ negation-fits ∙ rw (bits-back, +ℤ-idl)
+
+-- a number below 0, or not: the cast that the test allows
+below-zero : (z : ℤ) → mag z < 0x400000000 → ltZ z (pos 0) ≡ true → T (nonNeg (negℤ z)) × Fits w64 (natAbs (negℤ z)) × (negℤ (pos (natAbs (negℤ z))) ≡ z)
+below-zero (pos n) f e = let h : n < 0 = ltb-true n 0 e in absurd (not-suc-le-zero h)
+below-zero (negsuc n) f e = (tt, record { fits = omega arith }, refl)
+
+from-zero : (z : ℤ) → mag z < 0x400000000 → ltZ z (pos 0) ≡ false → T (nonNeg z) × Fits w64 (natAbs z) × (pos (natAbs z) ≡ z)
+from-zero (pos n) f e = (tt, record { fits = omega arith }, refl)
+from-zero (negsuc n) f e = let q : true ≡ false = e in absurd (subst T q tt)
+
+module _ (z : ℤ) (small : mag z < 0x400000000) where
+  pub long-back : x64 z ≡ z
+  long-back = bits-back w64 z (omega (arith, small))
+
+  pub long-negation-fits : SFits w64 (pos 0 -ℤ x64 z)
+  long-negation-fits = negation-fits w64 z (omega (arith, small))
+
+  pub long-negation : x64 (pos 0 -ℤ x64 z) ≡ negℤ z
+  long-negation = negation-is w64 z (omega (arith, small))
+
+  pub negation-cast : ltZ (x64 z) (pos 0) ≡ true → T (nonNeg (x64 (pos 0 -ℤ x64 z))) × Fits w64 (natAbs (x64 (pos 0 -ℤ x64 z)))
+  negation-cast e = let b = below-zero z small (rw long-back at e) in rw long-negation (b .0, b .1)
+
+  pub negation-back : ltZ (x64 z) (pos 0) ≡ true → negℤ (pos (natAbs (x64 (pos 0 -ℤ x64 z)))) ≡ z
+  negation-back e = rw long-negation (below-zero z small (rw long-back at e) .2)
+
+  pub plain-cast : ltZ (x64 z) (pos 0) ≡ false → T (nonNeg (x64 z)) × Fits w64 (natAbs (x64 z))
+  plain-cast e = let b = from-zero z small (rw long-back at e) in rw long-back (b .0, b .1)
+
+  pub plain-back : ltZ (x64 z) (pos 0) ≡ false → pos (natAbs (x64 z)) ≡ z
+  plain-back e = rw long-back (from-zero z small (rw long-back at e) .2)
+
+-- ---- the wrapping sums and differences, of what is reduced first or not, as `plus`
+
+pub added : (E sum n r : ℕ) → r ≡ (sum + n) % 256 ^ E → r ≡ plus E sum (pos n)
+unfolding plus modZ
+added E sum n r q = q ∙ sym (add-mod-mod sum n (256 ^ E))
+
+pub taken : (E sum n r : ℕ) → r < 256 ^ E → (r + n) % 256 ^ E ≡ sum → r ≡ plus E sum (negℤ (pos n))
+taken E sum n r h e =
+    sym (plus-nil E r h) ∙ ap (plus E r) (sym (+ℤ-invr (pos n))) ∙ sym (plus-plus E r (pos n) (negℤ (pos n)))
+    ∙ ap (λ (y : ℕ). plus E y (negℤ (pos n))) (sym (added E r n _ refl) ∙ e)
+
+pub reduced : (E sum n : ℕ) → (sum + n % 256 ^ E) % 256 ^ E ≡ (sum + n) % 256 ^ E
+reduced E sum n = add-mod-mod sum n (256 ^ E)

@@ -1,12 +1,15 @@
 // Outer products on tiles of ZA, without instruction words: what Arm's pseudocode adds to each element.
 mod clear;
+mod plain;
 mod product;
+mod source;
 mod walk;
 
 pub use clear::clear_tiles;
 use isa::Predicate;
 use isa::Tile;
 use isa::Vector;
+pub use plain::update_plainly;
 pub use walk::update;
 
 // Which elements of a source count: all of them, or those that its governing predicate has.

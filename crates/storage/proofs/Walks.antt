@@ -1,5 +1,5 @@
 -- What a walk over a tile needs: storing one element is adding at it alone. Assumes nothing.
-use mathlib.Core.Path.{_≡_, refl, sym, ap, ap₂, _∙_, subst}
+use mathlib.Core.Path.{_≡_, refl, sym, ap, _∙_, subst}
 use mathlib.Core.Logic.{_≢_, _⊎_, inl, inr}
 use mathlib.Core.Bool.{_&&_, cond}
 use mathlib.Core.List.{List}
@@ -8,25 +8,25 @@ use native.Mathlib.Nat.{mod-lt, div-add-mod', mul-le-mul-right, div-lt-iff-lt-mu
 use native.Mathlib.Omega.{arith}
 use native.Mathlib.Decide.{ℕ-discrete, decLt}
 use lib.Arith.{digits-div, digits-mod, digits-lt}
-use lib.Dec.{eqb, ltb}
+use lib.Dec.{eqb}
 use lib.ListN.{length}
 use lib.Seq.{sets, length-sets, ext-getD}
-use lib.IntN.{ℤ, pos, +ℤ-idl, +ℤ-idr}
-use borrow.Author.Tests.{eq-eqb, ne-eqb, lt-ltb, le-ltb}
+use lib.IntN.{ℤ, pos}
+use borrow.Author.Tests.{eq-eqb, ne-eqb}
 use Rattle.storage.specs.Bytes.{at, byteOf, word, bytesOf}
 use Rattle.storage.specs.Modulo.{plus}
 use Rattle.storage.specs.Tile.{start, element, addAt, addTo}
 use Rattle.storage.proofs.Modulo.{plus-nil}
 use Rattle.storage.proofs.Bytes.{length-bytesOf, at-bytesOf, at-sets-out, at-sets-in, byte-word, word-lt}
 use Rattle.storage.proofs.Changes.{change-ext}
-use Rattle.storage.proofs.Tiles.{Sized, _⊕_, nil, add-in, add-out, by-element, row-of}
-use Rattle.storage.proofs.Laws.{Good, addTo-at, addTo-length, addTo-addTo, addTo-nil, Inside, num, number, zrow, num-col, held}
+use Rattle.storage.proofs.Tiles.{Sized, add-in, add-out, by-element, row-of}
+use Rattle.storage.proofs.Laws.{Good, addTo-at, addTo-length, Inside, num, number, zrow, num-col, held}
 
 -- z at one element, 0 at all others
 abbrev pub single : ℕ → ℕ → ℤ → ℕ → ℕ → ℤ
 single row col z r c = cond (eqb r row && eqb c col) z (pos 0)
 
-single-other : (row col : ℕ) (z : ℤ) (r c : ℕ) → ((r ≡ row) → c ≢ col) → single row col z r c ≡ pos 0
+pub single-other : (row col : ℕ) (z : ℤ) (r c : ℕ) → ((r ≡ row) → c ≢ col) → single row col z r c ≡ pos 0
 single-other row col z r c d = go (ℕ-discrete r row)
   where
     go : Dec (r ≡ row) → single row col z r c ≡ pos 0
@@ -121,55 +121,3 @@ module _ (E vb n : ℕ) (s : Sized E vb) (t : ℕ) (f g : ℕ → ℕ → ℤ) (
           (a (e / s .cols / E) (e % s .cols) (omega (arith, div-add-mod' (e / s .cols) E)) (mod-lt e (s .wide)))
           ∙ sym (add-in E vb s t g (at za) e j h i)
       go e j h (no i) l = add-out E vb s t f (at za) e j h i ∙ sym (add-out E vb s t g (at za) e j h i)
-
--- the first c elements, row by row, are done
-abbrev pub upto : ℕ → ℕ → (ℕ → ℕ → ℤ) → ℕ → ℕ → ℤ
-upto cols c f row col = cond (ltb (row * cols + col) c) (f row col) (pos 0)
-
-module _ (E vb n : ℕ) (s : Sized E vb) (t : ℕ) (f : ℕ → ℕ → ℤ) (za : List ℕ) (k : Good vb n za) where
-  abbrev first : ℕ → ℕ → ℕ → ℤ
-  first c = upto (s .cols) c f
-
-  abbrev number-of : ℕ → ℕ → ℕ
-  number-of row col = row * s .cols + col
-
-  pub walk-none : addTo E vb t (upto (s .cols) 0 f) za ≡ za
-  walk-none =
-      addTo-cong E vb n s t (first 0) nil za k (λ r c a b. rw (le-ltb (number-of r c) 0 (omega arith)))
-      ∙ addTo-nil E vb n s t za k
-
-  -- one more element
-  one-more : (row col r c : ℕ) → col < s .cols → c < s .cols → (first (number-of row col) ⊕ single row col (f row col)) r c ≡ first (number-of row col + 1) r c
-  one-more row col r c h l = go (decLt x y) (ℕ-discrete x y)
-    where
-      x : ℕ
-      x = number-of r c
-
-      y : ℕ
-      y = number-of row col
-
-      differ : x ≢ y → single row col (f row col) r c ≡ pos 0
-      differ d = single-other row col (f row col) r c (λ a b. d (ap₂ number-of a b))
-
-      go : Dec (x < y) → Dec (x ≡ y) → (first y ⊕ single row col (f row col)) r c ≡ first (y + 1) r c
-      go (yes a) (yes e) = absurd (let z : x ≡ y = e in omega arith)
-      go (yes a) (no d) = rw (lt-ltb x y a, lt-ltb x (y + 1) (omega arith), differ d) (+ℤ-idr (f r c))
-      go (no a) (yes e) =
-          let i : r ≡ row = sym (digits-div r l) ∙ ap (λ (v : ℕ). v / s .cols) e ∙ digits-div row h in
-          let j : c ≡ col = sym (digits-mod r l) ∙ ap (λ (v : ℕ). v % s .cols) e ∙ digits-mod row h in
-          rw (le-ltb x y (omega arith), lt-ltb x (y + 1) (omega arith), eq-eqb r row i, eq-eqb c col j)
-          (+ℤ-idl (f row col) ∙ ap₂ f (sym i) (sym j))
-      go (no a) (no d) = rw (le-ltb x y (omega arith), le-ltb x (y + 1) (omega arith), differ d) (+ℤ-idl (pos 0))
-
-  -- a turn of the walk
-  pub walk-one : (row col : ℕ) → col < s .cols
-      → addTo E vb t (single row col (f row col)) (addTo E vb t (upto (s .cols) (row * s .cols + col) f) za)
-      ≡ addTo E vb t (upto (s .cols) (row * s .cols + col + 1) f) za
-  walk-one row col h =
-      addTo-addTo E vb n s t (first (number-of row col)) (single row col (f row col)) za k
-      ∙ addTo-cong E vb n s t (first (number-of row col) ⊕ single row col (f row col)) (first (number-of row col + 1)) za k
-      (λ r c a b. one-more row col r c h b)
-
-  pub walk-all : (c : ℕ) → ((row col : ℕ) → row * E + t < n → col < s .cols → row * s .cols + col < c)
-      → addTo E vb t (upto (s .cols) c f) za ≡ addTo E vb t f za
-  walk-all c h = addTo-cong E vb n s t (first c) f za k (λ row col a b. rw (lt-ltb (number-of row col) c (h row col a b)))
