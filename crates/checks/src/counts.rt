@@ -1,7 +1,8 @@
 // Counts, and writing them. Sums are modulo 2^64, which no program here reaches.
 ghost use mathlib.Core.Path.{_≡_};
 ghost use mathlib.Core.Bool.{cond};
-ghost use Rattle.checks.specs.Tally.{sum, withLine};
+ghost use lib.ListN.{length};
+ghost use Rattle.checks.specs.Tally.{sum, withLine, hasAt, differences};
 use crate::Outcome;
 use crate::Tally;
 use libc::STDOUT_FILENO;
@@ -63,4 +64,26 @@ pub fn count(name: &[u8], n: u64) {
 pub fn part(name: &[u8], n: u64) {
     io::write_all(STDOUT_FILENO, name);
     io::print_decimal(STDOUT_FILENO, n);
+}
+
+// How many of a's places b hasn't alike.
+pub fn differing(a: &[u8], b: &[u8]) -> u64
+    ensures { λ r. ⌜ r ≡ differences (length (now (a .entry))) (now (a .entry)) (now (b .entry)) ⌝ }
+{
+    let mut n: u64 = 0;
+    let mut i = 0;
+    while i < a.len() {
+        n = plus(n, one_if(!has(b, i, a[i])));
+        i += 1;
+    }
+    n
+}
+
+fn has(bytes: &[u8], i: usize, byte: u8) -> bool
+    ensures { λ r. ⌜ r ≡ hasAt (now (bytes .entry)) i byte ⌝ }
+{
+    if bytes.len() <= i {
+        return false;
+    }
+    bytes[i] == byte
 }

@@ -1,10 +1,11 @@
-// What the check programs share: reading numbers and fields of a text, a stream of bytes, and a tally of compared lines.
+// What the check programs share: reading numbers and fields of a text, a stream of bytes, and counts of compared lines and bytes.
 mod counts;
 mod stream;
 mod text;
 
 pub use counts::count;
 pub use counts::counted;
+pub use counts::differing;
 pub use counts::one_if;
 pub use counts::part;
 pub use counts::plus;

@@ -66,7 +66,10 @@ module _ {vb : ℕ} {o : OuterProduct} {z p : List ℕ} {register e : ℕ} {v : 
       let is : toZ w32 bits ≡ negℤ v = ap (toZ w32) b ∙ negation-is w32 v (omega (arith, w .small, half-small u)) in
       record { value = rw s (is ∙ ap negℤ (w .value)); small = rw is (omega (arith, w .small, mag-neg v)) }
 
--- by the register's number
+-- by the element's size, and by the register's number
+pub valued-as : {b B vb : ℕ} {z p : List ℕ} {o : Operand} {register e : ℕ} {x : ℤ} → b ≡ B → Valued b vb z p o register e x → Valued B vb z p o register e x
+valued-as e v = rw e at v
+
 pub valued-at : {B vb : ℕ} {z p : List ℕ} {o : Operand} {register r e : ℕ} {x : ℤ} → register ≡ r → Valued B vb z p o register e x → Valued B vb z p o r e x
 valued-at e v = rw e at v
 

@@ -8,14 +8,15 @@ use native.Mathlib.Omega.{arith}
 use native.Mathlib.Nat.{le-refl, mul-le-mul-left, mul-le-mul-right, le-div-iff-mul-le}
 use lib.Dec.{lit<, lit≤, ltb}
 use lib.IntN.{ℤ}
-use borrow.Author.Tests.{lt-ltb, le-ltb}
+use native.Mathlib.Decide.{ℕ-discrete, decLt}
+use borrow.Author.Tests.{eq-eqb, ne-eqb, lt-ltb, le-ltb}
 use Rattle.storage.specs.Modulo.{plus}
 use Rattle.storage.specs.Sizes.{legal}
 use Rattle.storage.proofs.Sizes.{Length, legal-length}
 use Rattle.outer.specs.declared.Operand.{Operand}
 use Rattle.outer.specs.declared.OuterProduct.{OuterProduct}
 use Rattle.outer.specs.Products.{registerAt, Shaped, bytes32, halves64, GoodOperand, Ready}
-use Rattle.outer.specs.Walks.{FourOrEight, four, eight, ByteOrHalf, byte, half, Sources, SameUntil}
+use Rattle.outer.specs.Walks.{FourOrEight, four, eight, ByteOrHalf, byte, half, Sources, sameUntil, SameUntil}
 use Rattle.outer.proofs.Progress.{Tiled}
 
 -- ---- sizes
@@ -90,7 +91,7 @@ register-lt o n i g = go (ltb i (n / 2))
     go true = g .low
     go false = g .high
 
-pub sources : {E vb : ℕ} {o : OuterProduct} {s : Operand} {z p : List ℕ} {register : ℕ} → Ready E vb o z p → GoodOperand s → register < 32
+sources : {E vb : ℕ} {o : OuterProduct} {s : Operand} {z p : List ℕ} {register : ℕ} → Ready E vb o z p → GoodOperand s → register < 32
     → Sources vb s register z p
 sources r g h = record { length-legal = r .length-legal; z-size = r .z-size; p-size = r .p-size; predication = g .predication; register-in = h }
 
@@ -144,19 +145,32 @@ numbered {E} {K} sh {vb} {c} {j} l h k =
       wide = b;
     }
 
+-- what reading it asks
+pub element-asks : {vb : ℕ} {o : OuterProduct} {z p : List ℕ} {s : Operand} {register b c j : ℕ} → Shaped (o .element) (o .products)
+    → Ready (o .element) vb o z p → GoodOperand s → register < 32 → b ≡ o .element / o .products → c < vb / o .element → j < o .products
+    → ByteOrHalf b × (Sources vb s register z p × ((o .products * c + j) * b + b ≤ vb))
+element-asks sh r g h e k l = rw e (shape sh .source, (sources r g h, numbered sh (r .length-legal) k l .inside))
+
 -- ---- where an operand's register changes
-module _ (o : Operand) (n from : ℕ) (h : from < n) where
-  pub same-all : o .low .0 ≡ o .high .0 → SameUntil o n from n
-  same-all e = record { more = h; inside = le-refl n; same = λ i l k. go (ltb i (n / 2)) (ltb from (n / 2)) }
-    where
-      go : (s t : Bool) → cond s (o .low .0) (o .high .0) ≡ cond t (o .low .0) (o .high .0)
-      go true true = refl
-      go true false = e
-      go false true = sym e
-      go false false = refl
+same-until : (o : Operand) (n from : ℕ) → from < n → SameUntil o n from (sameUntil o n from)
+same-until o n from h = go (ℕ-discrete (o .low .0) (o .high .0)) (decLt from (n / 2))
+  where
+    alike : o .low .0 ≡ o .high .0 → (s t : Bool) → cond s (o .low .0) (o .high .0) ≡ cond t (o .low .0) (o .high .0)
+    alike e true true = refl
+    alike e true false = e
+    alike e false true = sym e
+    alike e false false = refl
 
-  pub same-low : from < n / 2 → SameUntil o n from (n / 2)
-  same-low l = record { more = l; inside = omega arith; same = λ i a b. rw (lt-ltb i (n / 2) b, lt-ltb from (n / 2) l) }
+    go : Dec (o .low .0 ≡ o .high .0) → Dec (from < n / 2) → SameUntil o n from (sameUntil o n from)
+    go (yes e) l =
+        rw (eq-eqb (o .low .0) (o .high .0) e)
+        (record { more = h; inside = le-refl n; same = λ i a b. alike e (ltb i (n / 2)) (ltb from (n / 2)) })
+    go (no d) (yes l) =
+        rw (ne-eqb (o .low .0) (o .high .0) d, lt-ltb from (n / 2) l)
+        (record { more = l; inside = omega arith; same = λ i a b. rw (lt-ltb i (n / 2) b, lt-ltb from (n / 2) l) })
+    go (no d) (no l) =
+        rw (ne-eqb (o .low .0) (o .high .0) d, le-ltb from (n / 2) (omega arith))
+        (record { more = h; inside = le-refl n; same = λ i a b. rw (le-ltb i (n / 2) (omega arith), le-ltb from (n / 2) (omega arith)) })
 
-  pub same-high : n / 2 ≤ from → SameUntil o n from n
-  same-high l = record { more = h; inside = le-refl n; same = λ i a b. rw (le-ltb i (n / 2) (omega arith), le-ltb from (n / 2) l) }
+pub one-register : {o : Operand} {n m from to : ℕ} → n ≡ m → from < n → to ≡ sameUntil o n from → SameUntil o m from to
+one-register {o} {n} {m} {from} e h q = rw (q, ← e) (same-until o n from h)

@@ -2,7 +2,7 @@
 -- USMOP4S). Over the size E of a tile element in bytes and the number K of products, as parameters of the definitions and
 -- their laws; a source element has E / K bytes. `sums` reads both off an outer product.
 use mathlib.Core.Path.{_≡_}
-use mathlib.Core.Bool.{Bool, true, false, cond, _&&_}
+use mathlib.Core.Bool.{Bool, true, cond, _&&_}
 use mathlib.Core.List.{List}
 use Prim.Native.Nat.{ℕ, zero, suc, _+_, _-_, _*_, _/_, _^_, _<_}
 use lib.Dec.{ltb}
@@ -32,15 +32,6 @@ sourceElement B vb z register e = word B (at z) (register * vb + e * B)
 abbrev pub active : ℕ → ℕ → List ℕ → Predication → ℕ → Bool
 active B vb p Unpredicated e = true
 active B vb p (By q) e = bitAt p (q .0 * vb + e * B)
-
--- whether a predicate governs the elements, and its number, 0 where none does: words of private contracts
-abbrev pub governs : Predication → Bool
-governs Unpredicated = false
-governs (By q) = true
-
-abbrev pub predicateOf : Predication → ℕ
-predicateOf Unpredicated = 0
-predicateOf (By q) = q .0
 
 module _ (E K vb : ℕ) (o : OuterProduct) (z p : List ℕ) (row col k : ℕ) where
   -- the two elements of product k at (row, col): the first source's register by the column's half, the second's by the row's

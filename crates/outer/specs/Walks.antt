@@ -4,7 +4,7 @@ use mathlib.Core.Path.{_≡_}
 use mathlib.Core.Bool.{true, cond, _&&_}
 use mathlib.Core.List.{List}
 use Prim.Native.Nat.{ℕ, _+_, _*_, _/_, _^_, _≤_, _<_}
-use lib.Dec.{leb, ltb}
+use lib.Dec.{eqb, leb, ltb}
 use lib.IntN.{ℤ, pos, _*ℤ_}
 use lib.ListN.{length, getD}
 use lib.Signed.{mag}
@@ -82,7 +82,11 @@ AddedIn E vb tile f row from to before after = AddedTo E vb tile f (row * (vb / 
 abbrev pub Added : ℕ → OuterProduct → List ℕ → List ℕ → ℕ → ℕ → ℕ → List ℕ → List ℕ → Type 0
 Added vb o z p row from to before after = AddedIn (o .element) vb (o .tile .0) (sums vb o z p) row from to before after
 
--- an operand has one register for rows or columns from `from` up to `to`, of n
+-- the row or column, of n, up to which an operand's register is the one that it has at `from`
+abbrev pub sameUntil : Operand → ℕ → ℕ → ℕ
+sameUntil o n from = cond (eqb (o .low .0) (o .high .0)) n (cond (ltb from (n / 2)) (n / 2) n)
+
+-- up to `to` it is
 pub record SameUntil (o : Operand) (n from to : ℕ) : Type 0 where
   pub more : from < to
   pub inside : to ≤ n

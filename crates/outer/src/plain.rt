@@ -1,5 +1,5 @@
-// The plain walk over a tile, straight from Arm's pseudocode: rows, columns and products nested, and each product reads its
-// two elements and their predicate bits. The fast walk is held against it.
+// The plain walk over a tile, straight from Arm's pseudocode: rows, columns and products nested, and for each product its two
+// elements are looked for anew. The fast walk is held against it.
 ghost use mathlib.Core.Path.{_≡_};
 ghost use Prim.Native.Nat.{_/_, _^_, _<_};
 ghost use lib.IntN.{_*ℤ_};
@@ -58,18 +58,18 @@ fn add_product(
 {
     let dim = vb / o.element;
     let b = o.element / o.products;
-    let f = (o.products * row + k) * b;
-    let s = (o.products * col + k) * b;
-    if !is_active(p, vb, o.first, f) {
+    let first_byte = (o.products * row + k) * b;
+    let second_byte = (o.products * col + k) * b;
+    if !is_active(p, vb, o.first, first_byte) {
         return sum;
     }
-    if !is_active(p, vb, o.second, s) {
+    if !is_active(p, vb, o.second, second_byte) {
         return sum;
     }
     let n = register_at(o.first, dim, col);
     let m = register_at(o.second, dim, row);
-    let x = read(b, z, n * vb + f, o.first.unsigned);
-    let y = read(b, z, m * vb + s, o.second.unsigned);
+    let x = read(b, z, n * vb + first_byte, o.first.unsigned);
+    let y = read(b, z, m * vb + second_byte, o.second.unsigned);
     accumulate(o.element, o.products, sum, x, y, o.subtract)
 }
 
@@ -79,9 +79,9 @@ fn accumulate(e: usize, k: usize, sum: u64, x: i32, y: i32, subtract: bool) -> u
     requires { ⌜ (sum < 256 ^ e) × (mag x < 256 ^ (e / k)) × (mag y < 256 ^ (e / k)) ⌝ }
     ensures { λ r. ⌜ r ≡ plus e sum (directed subtract (x *ℤ y)) ⌝ }
 {
-    let p = multiply(e, k, x, y);
+    let product = multiply(e, k, x, y);
     if subtract {
-        return add_signed(e, sum, 0 - p);
+        return add_signed(e, sum, 0 - product);
     }
-    add_signed(e, sum, p)
+    add_signed(e, sum, product)
 }

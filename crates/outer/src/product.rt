@@ -1,5 +1,5 @@
-// A tile element read, written and added to. Its size and the number of products are run-time numbers; only what is multiplied
-// depends on the shape.
+// Products, and the tile elements that they are added to. Sizes and the number of products are run-time numbers: what is
+// multiplied, and the type that wraps, go by them.
 ghost use mathlib.Core.Path.{_≡_};
 ghost use Prim.Native.Nat.{_+_, _/_, _^_, _≤_, _<_};
 ghost use lib.IntN.{pos, negℤ, _*ℤ_};

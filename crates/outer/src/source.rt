@@ -6,7 +6,7 @@ ghost use lib.ListN.{length};
 ghost use lib.Signed.{mag};
 ghost use Rattle.storage.specs.Bytes.{at, word};
 ghost use Rattle.storage.specs.Sizes.{legal, pSize};
-ghost use Rattle.outer.specs.Products.{interpret, registerAt, active, governs, predicateOf, GoodPredication};
+ghost use Rattle.outer.specs.Products.{interpret, registerAt, active, GoodPredication};
 ghost use Rattle.outer.specs.Walks.{ByteOrHalf, Sources, Valued};
 use crate::Operand;
 use crate::Predication;
@@ -39,30 +39,9 @@ pub(crate) fn is_active(p: &[u8], vb: usize, o: Operand, byte: usize) -> bool
     ensures { λ r. ⌜ r ≡ active 1 vb (now (p .entry)) (o .predication) byte ⌝ }
 {
     let predication = o.predication;
-    let predicate = predicate_of(predication);
-    if is_governed(predication) {
-        return storage::bit(p, predicate * vb + byte);
-    }
-    true
-}
-
-// A test and a number rather than a match, so that the compiler can take both out of the walks.
-
-fn is_governed(by: Predication) -> bool
-    ensures { λ r. ⌜ r ≡ governs by ⌝ }
-{
-    match by {
-        Predication::Unpredicated => false,
-        Predication::By(_) => true,
-    }
-}
-
-fn predicate_of(by: Predication) -> usize
-    ensures { λ r. ⌜ r ≡ predicateOf by ⌝ }
-{
-    match by {
-        Predication::Unpredicated => 0,
-        Predication::By(q) => q.0 as usize,
+    match predication {
+        Predication::Unpredicated => true,
+        Predication::By(q) => storage::bit(p, (q.0 as usize) * vb + byte),
     }
 }
 

@@ -1,12 +1,12 @@
-// The walk over a tile, one for all shapes: the second source is read once for a word, or once for each half of the rows
-// where it is a pair, and a row's first-source elements once, or once for each half of its columns.
+// The walk over a tile, one for all shapes: the second source is read once for a word, and a row's first-source elements once;
+// where a source is a pair, once for each half of the rows, or of the columns.
 ghost use mathlib.Core.Path.{_≡_};
 ghost use Prim.Native.Nat.{_+_, _*_, _/_, _<_};
 ghost use lib.ListN.{length};
 ghost use Rattle.storage.specs.Sizes.{zaSize};
 ghost use Rattle.storage.specs.Tile.{addTo};
 ghost use Rattle.outer.specs.Products.{registerAt, sums, Shaped, Ready};
-ghost use Rattle.outer.specs.Walks.{FourOrEight, Fetched, Planes, Added, AddedIn, SameUntil, planeDot, Part};
+ghost use Rattle.outer.specs.Walks.{FourOrEight, Fetched, Planes, Added, AddedIn, sameUntil, SameUntil, planeDot, Part};
 use crate::Operand;
 use crate::OuterProduct;
 use crate::product::add_signed;
@@ -184,8 +184,7 @@ fn source_bytes(e: usize, k: usize) -> usize
 
 // The row or column, of n, up to which an operand's register is the one that it has at `from`.
 fn same_until(o: Operand, n: usize, from: usize) -> usize
-    requires { ⌜ from < n ⌝ }
-    ensures { λ r. ⌜ SameUntil o n from r ⌝ }
+    ensures { λ r. ⌜ r ≡ sameUntil o n from ⌝ }
 {
     if o.low.0 == o.high.0 {
         return n;

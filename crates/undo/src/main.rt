@@ -4,6 +4,7 @@ ghost use mathlib.Core.Path.{_≡_};
 ghost use Prim.Native.Nat.{_≤_};
 ghost use lib.ListN.{length};
 use checks::Fill;
+use checks::differing;
 use checks::generate;
 use checks::next;
 use checks::one_if;
@@ -166,24 +167,6 @@ fn is_accepted(word: u32) -> bool {
         Decoded::Accepted(_) => true,
         Decoded::Refused(_) => false,
     }
-}
-
-// How many of a's bytes b hasn't in the same place.
-fn differing(a: &[u8], b: &[u8]) -> u64 {
-    let mut n: u64 = 0;
-    let mut i = 0;
-    while i < a.len() {
-        n = plus(n, one_if(!has(b, i, a[i])));
-        i += 1;
-    }
-    n
-}
-
-fn has(bytes: &[u8], i: usize, byte: u8) -> bool {
-    if bytes.len() <= i {
-        return false;
-    }
-    bytes[i] == byte
 }
 
 fn draw(x: u32, words: &mut [u32]) {

@@ -57,10 +57,25 @@ pub(crate) fn draw(
     ensures { λ _. ⌜ Room kind (now (z .exit)) (now (p .exit)) (now (za .exit)) (now (plain .exit)) (now (start .exit)) ⌝ }
 {
     let fill = fill_of(n / 32);
-    let after_z = generate(n, fill, z);
+    let after_z = generate(seed_of(kind, n), fill, z);
     let after_p = draw_predicates(after_z, n / 8 % 4, p);
     let after_za = draw_alike(after_p, fill, za, plain, start);
     outer_product(kind, n, after_za)
+}
+
+// Its own for each kind of one length.
+fn seed_of(kind: Kind, n: u32) -> u32 {
+    let quarter = kind.quarter;
+    let seed = if kind.element == 8 {
+        std::num::wrapping_add_u32(n, 1000)
+    } else {
+        n
+    };
+    if quarter {
+        std::num::wrapping_add_u32(seed, 2000)
+    } else {
+        seed
+    }
 }
 
 fn draw_alike(x: u32, fill: Fill, za: &mut [u8], plain: &mut [u8], start: &mut [u8]) -> u32 {
@@ -77,7 +92,7 @@ fn fill_of(n: u32) -> Fill {
     }
 }
 
-// Sets a quarter, a half, three quarters or all of the predicates' bits.
+// Sets about a quarter, a half or three quarters of the predicates' bits, or all.
 fn draw_predicates(x: u32, quarters: u32, p: &mut [u8]) -> u32 {
     let mut x = x;
     for i in 0..p.len() {
@@ -107,7 +122,7 @@ fn outer_product(kind: Kind, n: u32, x: u32) -> OuterProduct
 {
     let y = next(x);
     let element = kind.element;
-    let tile = (next(y) / 65536) as usize % element;
+    let tile = high_bits(next(y)) as usize % element;
     OuterProduct {
         element,
         products: 4,
@@ -118,11 +133,16 @@ fn outer_product(kind: Kind, n: u32, x: u32) -> OuterProduct
     }
 }
 
+// Twelve of them: the lower ones come again after as many steps as ZA has bytes.
+fn high_bits(x: u32) -> u32 {
+    x / 0x10_0000
+}
+
 // A predicated source's register and predicate, a quarter-tile one's register, or registers if it is a pair.
 fn source(x: u32, quarter: bool, pair: bool, unsigned: bool) -> Operand
     ensures { λ r. ⌜ GoodOperand r ⌝ }
 {
-    let drawn = x / 65536;
+    let drawn = high_bits(x);
     if !quarter {
         let by = Predication::By(Predicate(drawn / 32 % 16));
         return operand(drawn % 32, drawn % 32, by, unsigned);

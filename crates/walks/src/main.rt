@@ -1,6 +1,5 @@
 // Updates the same bytes by `outer::update` and by the plain walk, `outer::update_plainly`, and counts the bytes of ZA in
-// which the two differ: in both families at both widths, on the shortest and the longest vectors. The walks' times are
-// written to standard error.
+// which the two differ, on the shortest and the longest vectors. The walks' times are written to standard error.
 ghost use mathlib.Core.Path.{_≡_};
 ghost use mathlib.Core.Bool.{true};
 ghost use lib.ListN.{length};

@@ -1,7 +1,5 @@
 // Counts of updates and of bytes.
-ghost use mathlib.Core.Path.{_≡_};
-ghost use lib.ListN.{length};
-use checks::one_if;
+use checks::differing;
 use checks::part;
 use checks::plus;
 use libc::STDOUT_FILENO;
@@ -37,18 +35,10 @@ pub(crate) fn write_tally(t: Tally) {
 }
 
 // The tally of what one walk left in za and the other in plain.
-pub(crate) fn tally_bytes(za: &[u8], plain: &[u8], start: &[u8]) -> Tally
-    requires { ⌜ (length (now plain) ≡ length (now za)) × (length (now start) ≡ length (now za)) ⌝ }
-{
-    let mut changed: u64 = 0;
-    let mut differing: u64 = 0;
-    for i in 0..za.len() {
-        changed = plus(changed, one_if(za[i] != start[i]));
-        differing = plus(differing, one_if(za[i] != plain[i]));
-    }
+pub(crate) fn tally_bytes(za: &[u8], plain: &[u8], start: &[u8]) -> Tally {
     Tally {
         updates: 1,
-        changed,
-        differing,
+        changed: differing(za, start),
+        differing: differing(za, plain),
     }
 }

@@ -1,11 +1,11 @@
 -- `outer::walk::add_row` meets its contract: the columns before `from` have their products added. Assumes nothing.
-use mathlib.Core.Path.{_≡_, _∙_, sym, subst}
-use Prim.Native.Nat.{ℕ, _+_, _-_, _*_, _/_, _≤_}
+use mathlib.Core.Path.{_≡_, _∙_, sym}
+use Prim.Native.Nat.{_+_, _-_, _*_, _/_, _≤_}
 use native.Mathlib.Omega.{arith}
 use Rattle.outer.specs.Products.{sums}
 use Rattle.outer.specs.Walks.{SameUntil}
 use Rattle.outer.proofs.Progress.{Tiled, Since, lent, since-size, since-none, since-then}
-use Rattle.outer.proofs.Shapes.{shape, on-tile}
+use Rattle.outer.proofs.Shapes.{shape, on-tile, one-register}
 use Rattle.outer.proofs.walk.add_row.Statement.{statement}
 use Rattle.outer.proofs.walk.add_row.Tie as tie
 
@@ -28,9 +28,7 @@ entry c = c .before .before .before .before .before
 -- one register up to the end of the run at hand
 until : (c : tie.After-same-until Inv-loop μ-loop) → let a = entry (c .before .before) .args in
     SameUntil (a .o .first) (a .vb / a .o .element) (c .before .before .loop .from) (c .same-until .result)
-until c =
-    let l = c .before .before in
-    subst (λ (n : ℕ). SameUntil (entry l .args .o .first) n (l .loop .from) (c .same-until .result)) (l .before .columns .ensures) (c .same-until .ensures)
+until c = one-register (c .before .before .before .columns .ensures) (c .before .loop-test .taken) (c .same-until .ensures)
 
 loop-holds : tie.Need-loop-holds Inv-loop μ-loop
 loop-holds c =
@@ -67,7 +65,7 @@ add-row-spec =
     μ-loop
     (λ c κs. shape (c .before .before .before .pre .0) .element)
     loop-holds
-    (λ c κs. c .loop-test .taken)
+    (λ c κs. tt)
     add-part-requires
     (λ c. let u = c .before .before .before .before in omega (arith, u .before .loop-test .taken, until u .more, until u .inside))
     loop-again

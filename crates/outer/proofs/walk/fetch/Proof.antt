@@ -1,11 +1,11 @@
 -- `outer::walk::fetch` meets its contract: after j turns x holds j elements. Assumes nothing.
-use mathlib.Core.Path.{_≡_, _∙_, sym, subst}
+use mathlib.Core.Path.{_≡_, _∙_, sym}
 use Prim.Native.Nat.{ℕ, _+_, _-_, _*_, _≤_, _<_}
 use native.Mathlib.Omega.{arith}
 use lib.ListN.{length, length-set}
-use Rattle.outer.specs.Walks.{ByteOrHalf, signedAt, Valued, ValuedIn}
-use Rattle.outer.proofs.Shapes.{shape, sources, Numbered, numbered}
-use Rattle.outer.proofs.Elements.{valued-back}
+use Rattle.outer.specs.Walks.{signedAt, ValuedIn}
+use Rattle.outer.proofs.Shapes.{shape, Numbered, numbered, element-asks}
+use Rattle.outer.proofs.Elements.{valued-back, valued-as}
 use Rattle.outer.proofs.Arrays.{written}
 use Rattle.outer.proofs.walk.fetch.Statement.{statement}
 use Rattle.outer.proofs.walk.fetch.Tie as tie
@@ -26,22 +26,15 @@ here c = let s = entry c in numbered (s .pre .0) (s .pre .1 .0 .length-legal) (s
 element-requires : tie.Need-element-requires Inv-loop μ-loop
 element-requires c κs =
     let s = entry c in
-    let a = s .args in
-    let b = sym (c .before .before .source-bytes .ensures) in (
-      subst ByteOrHalf b (shape (s .pre .0) .source),
-      (
-        sources (s .pre .1 .0) (s .pre .1 .0 .first) (s .pre .1 .1 .0),
-        subst (λ (n : ℕ). (a .o .products * a .row + c .before .loop .j) * n + n ≤ a .vb) b (here c .inside),
-      ),
-    )
+    let r = s .pre .1 .0 in
+    element-asks (s .pre .0) r (r .first) (s .pre .1 .1 .0) (c .before .before .source-bytes .ensures) (s .pre .1 .1 .1) (c .loop-test .taken)
 
 loop-again : tie.Need-loop-again Inv-loop μ-loop
 loop-again c =
     let s = entry (c .before) in
     let a = s .args in
     let l = c .before .before .loop in
-    let x = subst (λ (n : ℕ). Valued n (a .vb) (a .z .now) (a .p .now) (a .o .first) (a .register) (a .o .products * a .row + l .j) (c .element .result))
-    (c .before .before .before .source-bytes .ensures) (c .element .ensures) in (
+    let x = valued-as (c .before .before .before .source-bytes .ensures) (c .element .ensures) in (
       omega arith,
       length-set (l .x) (2 * l .j) _ ∙ l .inv .1,
       λ i h. written (λ v. ValuedIn (a .vb) (a .o) (a .z .now) (a .p .now) (a .o .first) (a .register) (a .o .products * a .row + i) v)

@@ -1,5 +1,5 @@
 -- `outer::walk::widen` meets its contract: the columns before c have their elements, and column c has j. Assumes nothing.
-use mathlib.Core.Path.{_≡_, _∙_, sym, subst}
+use mathlib.Core.Path.{_≡_, _∙_, sym}
 use mathlib.Core.Logic.{inl, ⊎-elim}
 use mathlib.Core.List.{List}
 use Prim.Native.Nat.{ℕ, _+_, _-_, _*_, _/_, _%_, _≤_, _<_}
@@ -9,10 +9,10 @@ use lib.ListN.{length, length-set}
 use mir.Syntax.{w32}
 use mir.Val.{toZ}
 use Rattle.outer.specs.declared.OuterProduct.{OuterProduct}
-use Rattle.outer.specs.Walks.{ByteOrHalf, signedAt, Valued, ValuedIn, Turned}
-use Rattle.outer.proofs.Shapes.{shape, on-tile, sources, Numbered, numbered}
+use Rattle.outer.specs.Walks.{ByteOrHalf, signedAt, ValuedIn, Turned}
+use Rattle.outer.proofs.Shapes.{shape, on-tile, Numbered, numbered, element-asks}
 use Rattle.outer.proofs.Signed.{half-small, negation-fits}
-use Rattle.outer.proofs.Elements.{turned-taken, turned-added}
+use Rattle.outer.proofs.Elements.{valued-as, turned-taken, turned-added}
 use Rattle.outer.proofs.Arrays.{written, Filled, filled-none, filled-before, filled-column, plane-column, plane-product}
 use Rattle.outer.proofs.walk.widen.Statement.{statement}
 use Rattle.outer.proofs.walk.widen.Tie as tie
@@ -49,23 +49,18 @@ module _ (c : tie.In-loop2 Inv-loop2 μ-loop2 Inv-loop μ-loop) where
   abbrev entry : Entry
   entry = outer .before .before .before .before .before .before
 
+  column-in : outer .before .loop .c < entry .args .vb / entry .args .o .element
+  column-in = omega (arith, outer .loop-test .taken, outer .before .before .columns .ensures)
+
   here : let a = entry .args in Numbered (a .o .element) (a .o .products) (a .vb) (outer .before .loop .c) (c .before .loop2 .j)
-  here =
-      let s = entry in
-      numbered (s .pre .0) (s .pre .1 .0 .length-legal) (omega (arith, outer .loop-test .taken, outer .before .before .columns .ensures)) (c .loop2-test .taken)
+  here = numbered (entry .pre .0) (entry .pre .1 .0 .length-legal) column-in (c .loop2-test .taken)
 
 element-requires : tie.Need-element-requires Inv-loop2 μ-loop2 Inv-loop μ-loop
 element-requires c κs =
     let i = c .before in
     let s = entry i in
-    let a = s .args in
-    let b = sym (outer i .before .before .before .source-bytes .ensures) in (
-      subst ByteOrHalf b (shape (s .pre .0) .source),
-      (
-        sources (s .pre .1 .0) (s .pre .1 .0 .second) (s .pre .1 .1 .0),
-        subst (λ (n : ℕ). (a .o .products * outer i .before .loop .c + i .before .loop2 .j) * n + n ≤ a .vb) b (here i .inside),
-      ),
-    )
+    let r = s .pre .1 .0 in
+    element-asks (s .pre .0) r (r .second) (s .pre .1 .1 .0) (outer i .before .before .before .source-bytes .ensures) (column-in i) (i .loop2-test .taken)
 
 -- the element at hand
 module _ (c : tie.After-element Inv-loop2 μ-loop2 Inv-loop μ-loop) where
@@ -74,11 +69,7 @@ module _ (c : tie.After-element Inv-loop2 μ-loop2 Inv-loop μ-loop) where
 
   valued : let a = entry inner .args in ValuedIn (a .vb) (a .o) (a .z .now) (a .p .now) (a .o .second) (a .register)
       (a .o .products * outer inner .before .loop .c + inner .before .loop2 .j) (c .element .result)
-  valued =
-      let a = entry inner .args in
-      subst (λ (n : ℕ). Valued n (a .vb) (a .z .now) (a .p .now) (a .o .second) (a .register)
-      (a .o .products * outer inner .before .loop .c + inner .before .loop2 .j) (c .element .result))
-      (outer inner .before .before .before .source-bytes .ensures) (c .element .ensures)
+  valued = valued-as (outer inner .before .before .before .source-bytes .ensures) (c .element .ensures)
 
   source : let o = entry inner .args .o in ByteOrHalf (o .element / o .products)
   source = shape (entry inner .pre .0) .source

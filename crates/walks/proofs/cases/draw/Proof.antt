@@ -16,7 +16,7 @@ module _ (c : tie.After-outer-product) where
   z-drawn = p-drawn .before .before .before .before
 
   abbrev called : tie.Start
-  called = z-drawn .before .before .before .before .before .before .before .before
+  called = z-drawn .before .before .before .before .before .before .before .before .before
 
 same-length : tie.Need-same-length
 same-length c = let z = z-drawn c .generate in search needs
@@ -28,6 +28,7 @@ pub draw-spec : {M : Type 1} → statement M
 draw-spec =
     tie.close
     (tie.spec
+    (λ c κs. search needs)
     (λ c κs. search needs)
     (λ c κs. search needs)
     (λ c κs. search needs)

@@ -1,6 +1,6 @@
 -- `walks::cases::outer_product` meets its contract: the tile is a remainder. Assumes nothing.
 use mathlib.Core.Path.{refl}
-use Prim.Native.Nat.{ℕ, _/_, _≤_, _<_}
+use Prim.Native.Nat.{ℕ, _≤_, _<_}
 use native.Mathlib.Nat.{mod-lt}
 use native.Mathlib.Omega.{arith}
 use borrow.Author.Needs.{needs}
@@ -13,14 +13,14 @@ sizes bytes32 = omega arith
 sizes halves64 = omega arith
 
 some-tile : tie.Need-rem-tile
-some-tile c = omega (arith, sizes (c .before .before .pre))
+some-tile c = omega (arith, sizes (c .before .before .before .pre))
 
 tile-fits : tie.Need-cast-t7
-tile-fits c = let s = sizes (c .before .before .pre) in omega (arith, mod-lt (c .next2 .result / 65536) (s .0))
+tile-fits c = let s = sizes (c .before .before .before .pre) in omega (arith, mod-lt (c .high-bits .result) (s .0))
 
 returns : tie.Need-returns
 returns c =
-    let s = c .before .before .before .before in
+    let s = c .before .before .before .before .before in
     record {
       element = refl;
       products = refl;
@@ -33,6 +33,7 @@ pub outer-product-spec : {M : Type 1} → statement M
 outer-product-spec =
     tie.close
     (tie.spec
+    (λ c κs. search needs)
     (λ c κs. search needs)
     (λ c κs. search needs)
     (λ c. search needs)
