@@ -91,6 +91,10 @@ register-lt o n i g = go (ltb i (n / 2))
     go true = g .low
     go false = g .high
 
+-- a register that was looked up, of as many rows or columns as there are
+pub looked-up : {n m r : ℕ} (o : Operand) (i : ℕ) → GoodOperand o → n ≡ m → r ≡ registerAt o n i → (r ≡ registerAt o m i) × (r < 32)
+looked-up {n} o i g e q = rw (q, ← e) (refl, register-lt o n i g)
+
 sources : {E vb : ℕ} {o : OuterProduct} {s : Operand} {z p : List ℕ} {register : ℕ} → Ready E vb o z p → GoodOperand s → register < 32
     → Sources vb s register z p
 sources r g h = record { length-legal = r .length-legal; z-size = r .z-size; p-size = r .p-size; predication = g .predication; register-in = h }

@@ -8,7 +8,7 @@ use lib.IntN.{ℤ}
 use Rattle.outer.specs.Products.{registerAt, Shaped}
 use Rattle.outer.specs.Walks.{Fetched, Part, planeDot, Added, AddedIn}
 use Rattle.outer.proofs.Progress.{lent}
-use Rattle.outer.proofs.Shapes.{shape, of-eight, of-four, shaped-as, on-tile, register-lt}
+use Rattle.outer.proofs.Shapes.{shape, of-eight, of-four, shaped-as, on-tile, looked-up}
 use Rattle.outer.proofs.Parts.{part, part-done, part-as, added-as}
 use Rattle.outer.proofs.walk.add_part.Statement.{statement}
 use Rattle.outer.proofs.walk.add_part.Tie as tie
@@ -17,13 +17,8 @@ module _ (c : tie.After-register-at) where
   abbrev called : tie.Start
   called = c .before .before .before .before .before .before
 
-  register : let a = called .args in c .register-at .result ≡ registerAt (a .o .first) (a .vb / a .o .element) (a .from)
-  register =
-      subst (λ (n : ℕ). c .register-at .result ≡ registerAt (called .args .o .first) n (called .args .from)) (c .before .columns .ensures)
-      (c .register-at .ensures)
-
-  register-in : c .register-at .result < 32
-  register-in = let a = called .args in rw register (register-lt (a .o .first) (a .vb / a .o .element) (a .from) (called .pre .1 .0 .first))
+  register : let r = c .register-at .result in let a = called .args in (r ≡ registerAt (a .o .first) (a .vb / a .o .element) (a .from)) × (r < 32)
+  register = looked-up (called .args .o .first) (called .args .from) (called .pre .1 .0 .first) (c .before .columns .ensures) (c .register-at .ensures)
 
 module _ (c : tie.After-fetch) where
   abbrev entry : tie.Start
@@ -36,7 +31,7 @@ module _ (c : tie.After-fetch) where
   fetched : let a = entry .args in Fetched (a .vb) (a .o) (a .z .now) (a .p .now) (registerAt (a .o .first) (a .vb / a .o .element) (a .from)) (a .row) xs
   fetched =
       let a = entry .args in
-      subst (λ (r : ℕ). Fetched (a .vb) (a .o) (a .z .now) (a .p .now) r (a .row) xs) (register (c .before .before)) (c .fetch .ensures)
+      subst (λ (r : ℕ). Fetched (a .vb) (a .o) (a .z .now) (a .p .now) r (a .row) xs) (register (c .before .before) .0) (c .fetch .ensures)
 
   -- of such a shape the walk over columns may begin, and what it leaves is what is asked for
   module _ {E K : ℕ} (same : (entry .args .o .element ≡ E) × (entry .args .o .products ≡ K)) where
@@ -75,7 +70,7 @@ add-part-spec =
     (λ c κs. shape (c .before .before .before .before .pre .0) .element)
     (λ c κs. tt)
     (λ c. search needs)
-    (λ c κs. let r = c .before in let q = called r .pre in (q .0, (q .1 .0, (register-in r, q .1 .1 .1 .0 .0, refl))))
+    (λ c κs. let r = c .before in let q = called r .pre in (q .0, (q .1 .0, (register r .1, q .1 .1 .1 .0 .0, refl))))
     (λ c. search needs)
     (λ c κs. let t = c .before .before in asks (eight t) (shape64 t))
     (λ c. search needs)

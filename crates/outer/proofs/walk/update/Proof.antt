@@ -8,7 +8,7 @@ use lib.ListN.{length}
 use Rattle.outer.specs.Products.{registerAt, sums}
 use Rattle.outer.specs.Walks.{Planes}
 use Rattle.outer.proofs.Progress.{Tiled, Since, since-as, lent, since-size, since-none, since-then, since-all}
-use Rattle.outer.proofs.Shapes.{shape, on-tile, register-lt}
+use Rattle.outer.proofs.Shapes.{shape, on-tile, looked-up}
 use Rattle.outer.proofs.walk.update.Statement.{statement}
 use Rattle.outer.proofs.walk.update.Tie as tie
 
@@ -37,15 +37,11 @@ module _ (c : tie.After-register-at Inv-loop μ-loop) where
   row-in : head .loop .row < entry head .args .vb / entry head .args .o .element
   row-in = omega (arith, c .before .loop-test .taken, head .before .columns .ensures)
 
-  register : let a = entry head .args in c .register-at .result ≡ registerAt (a .o .second) (a .vb / a .o .element) (head .loop .row)
+  register : let r = c .register-at .result in let a = entry head .args in
+      (r ≡ registerAt (a .o .second) (a .vb / a .o .element) (head .loop .row)) × (r < 32)
   register =
-      subst (λ (n : ℕ). c .register-at .result ≡ registerAt (entry head .args .o .second) n (head .loop .row)) (head .before .columns .ensures)
-      (c .register-at .ensures)
-
-  register-in : c .register-at .result < 32
-  register-in =
-      let a = entry head .args in
-      rw register (register-lt (a .o .second) (a .vb / a .o .element) (head .loop .row) (entry head .pre .1 .0 .second))
+      let s = entry head in
+      looked-up (s .args .o .second) (head .loop .row) (s .pre .1 .0 .second) (head .before .columns .ensures) (c .register-at .ensures)
 
 loop-holds : tie.Need-loop-holds Inv-loop μ-loop
 loop-holds c =
@@ -58,7 +54,7 @@ hold-requires c κs =
     let r = c .before in
     let l = head r .loop in
     let s = entry (head r) in
-    (s .pre .0, (s .pre .1 .0, (register-in r, l .inv .1, l .inv .2)))
+    (s .pre .0, (s .pre .1 .0, (register r .1, l .inv .1, l .inv .2)))
 
 add-row-requires : tie.Need-add-row-requires Inv-loop μ-loop
 add-row-requires c κs =
@@ -66,7 +62,7 @@ add-row-requires c κs =
     let r = h .before .before in
     let s = entry (head r) in
     let a = s .args in
-    let y = subst (λ (n : ℕ). Planes (a .vb) (a .o) (a .z .now) (a .p .now) n (h .hold .last .1 .1 .1 .1 .1 .1 .0)) (register r) (h .hold .ensures) in
+    let y = subst (λ (n : ℕ). Planes (a .vb) (a .o) (a .z .now) (a .p .now) n (h .hold .last .1 .1 .1 .1 .1 .1 .0)) (register r .0) (h .hold .ensures) in
     (s .pre .0, (s .pre .1 .0, (since-size (tile s) (head r .loop .inv .3), (row-in r, y))))
 
 loop-again : tie.Need-loop-again Inv-loop μ-loop
