@@ -1,11 +1,11 @@
-/* Calls each function of birdaghol.h and compares its answer with document 01's example, or one worked out by hand. */
+/* Calls each function of birdaghol.h and compares its answer with an example of the rules, or one worked out by hand. */
 #include "birdaghol.h"
 #include <stdio.h>
 #include <string.h>
 
 enum { VB = 16 };
 
-static const uint32_t SUMOPA = 0xA0A00000, ZERO = 0xC00800FF, UNLISTED = 0x81000010;
+static const uint32_t SUMOPA = 0xA0A00000, UMOPA_2WAY = 0xA1800008, ZERO = 0xC00800FF, UNLISTED = 0x81000010;
 
 static uint8_t z[32 * VB], p[2 * VB], za[VB * VB];
 
@@ -25,16 +25,63 @@ static uint64_t packed(uint64_t value, uint64_t refusal) {
 static void words(void) {
     uint8_t room[64];
     const char *text = "usmop4s za2.s, { z10.b-z11.b }, { z30.b-z31.b }";
+    const char *two_way = "umopa za0.s, p0/m, p0/m, z0.h, z0.h";
     expect("decode", birdaghol_decode(6, 0xA1C0001F), 0);
     expect("decode, a feature off", birdaghol_decode(4, 0xA1C0001F), 8);
+    expect("decode, 2-way", birdaghol_decode(8, UMOPA_2WAY), 0);
+    expect("decode, 2-way, SME2 off", birdaghol_decode(7, UMOPA_2WAY), 8);
+    expect("decode, 2-way, mixed signs", birdaghol_decode(15, 0xA0A00008), 7);
     expect("print", birdaghol_print(7, 0x811E8352, room, sizeof room), packed(strlen(text), 0));
     expect("print, its text", (uint64_t)memcmp(room, text, strlen(text)), 0);
     expect("print, no room", birdaghol_print(7, ZERO, room, 62), packed(0, 12));
-    expect("encode_predicated", birdaghol_encode_predicated(4, false, true, true, 3, 2, 5, 3, 17), packed(0xA0B1A873, 0));
-    expect("encode_predicated, a size", birdaghol_encode_predicated(5, false, true, true, 3, 2, 5, 3, 17), packed(0, 11));
-    expect("encode_quarter", birdaghol_encode_quarter(8, false, true, true, 4, 12, false, 18, true), packed(0xA0F2019C, 0));
-    expect("encode_quarter, a pair", birdaghol_encode_quarter(4, true, false, true, 2, 10, true, 30, true), packed(0x811E8352, 0));
+    expect("print, 2-way", birdaghol_print(15, UMOPA_2WAY, room, sizeof room), packed(strlen(two_way), 0));
+    expect("print, its 2-way text", (uint64_t)memcmp(room, two_way, strlen(two_way)), 0);
+}
+
+static void encodings(void) {
+    expect("encode_predicated", birdaghol_encode_predicated(4, 4, false, true, true, 3, 2, 5, 3, 17), packed(0xA0B1A873, 0));
+    expect("encode_predicated, 2-way", birdaghol_encode_predicated(4, 2, true, true, true, 3, 2, 5, 3, 17), packed(0xA191A87B, 0));
+    expect("encode_predicated, a size", birdaghol_encode_predicated(5, 4, false, true, true, 3, 2, 5, 3, 17), packed(0, 11));
+    expect("encode_predicated, 3 products", birdaghol_encode_predicated(4, 3, true, true, true, 3, 2, 5, 3, 17), packed(0, 11));
+    expect("encode_predicated, 2-way, mixed signs", birdaghol_encode_predicated(4, 2, false, true, true, 3, 2, 5, 3, 17), packed(0, 11));
+    expect("encode_predicated, 2-way, 64-bit", birdaghol_encode_predicated(8, 2, true, true, true, 3, 2, 5, 3, 17), packed(0, 11));
+    expect("encode_quarter", birdaghol_encode_quarter(8, 4, false, true, true, 4, 12, false, 18, true), packed(0xA0F2019C, 0));
+    expect("encode_quarter, a pair", birdaghol_encode_quarter(4, 4, true, false, true, 2, 10, true, 30, true), packed(0x811E8352, 0));
+    expect("encode_quarter, 2-way", birdaghol_encode_quarter(4, 2, false, false, true, 2, 12, false, 18, true), packed(0x8012819A, 0));
+    expect("encode_quarter, 0 products", birdaghol_encode_quarter(4, 0, false, false, true, 2, 12, false, 18, true), packed(0, 11));
+    expect("encode_quarter, 2-way, mixed signs", birdaghol_encode_quarter(4, 2, true, false, true, 2, 12, false, 18, true), packed(0, 11));
+    expect("encode_quarter, 2-way, 64-bit", birdaghol_encode_quarter(8, 2, false, false, true, 2, 12, false, 18, true), packed(0, 11));
     expect("encode_zero", birdaghol_encode_zero(0x11), packed(0xC0080011, 0));
+}
+
+/* Describes a word with room for so many numbers, and compares the answer and every number, those past the room too. */
+static void describe(const char *what, uint32_t flags, uint32_t word, size_t room, uint32_t refusal, const uint32_t *right) {
+    uint32_t fields[BIRDAGHOL_FIELDS + 2], expected[BIRDAGHOL_FIELDS + 2];
+    memset(fields, 0xA5, sizeof fields);
+    memset(expected, 0xA5, sizeof expected);
+    if (refusal == 0) {
+        memcpy(expected, right, BIRDAGHOL_FIELDS * sizeof *right);
+    }
+    expect(what, birdaghol_describe(flags, word, fields, room), refusal);
+    expect(what, (uint64_t)memcmp(fields, expected, sizeof fields), 0);
+}
+
+static void descriptions(void) {
+    const uint32_t sumops[BIRDAGHOL_FIELDS] = {BIRDAGHOL_PREDICATED, 4, 4, 0, 1, 1, 3, 2, 5, 3, 17};
+    const uint32_t umops_2way[BIRDAGHOL_FIELDS] = {BIRDAGHOL_PREDICATED, 4, 2, 1, 1, 1, 3, 2, 5, 3, 17};
+    const uint32_t sumop4s[BIRDAGHOL_FIELDS] = {BIRDAGHOL_QUARTER, 8, 4, 0, 1, 1, 4, 12, 0, 18, 1};
+    const uint32_t smop4a_2way[BIRDAGHOL_FIELDS] = {BIRDAGHOL_QUARTER, 4, 2, 0, 0, 0, 2, 10, 1, 30, 0};
+    const uint32_t zero[BIRDAGHOL_FIELDS] = {BIRDAGHOL_ZERO, 0x11};
+    describe("describe, predicated", 15, 0xA0B1A873, BIRDAGHOL_FIELDS, 0, sumops);
+    describe("describe, predicated, 2-way", 8, 0xA191A87B, BIRDAGHOL_FIELDS, 0, umops_2way);
+    describe("describe, quarter-tile", 15, 0xA0F2019C, BIRDAGHOL_FIELDS, 0, sumop4s);
+    describe("describe, quarter-tile, 2-way", 4, 0x800E834A, BIRDAGHOL_FIELDS, 0, smop4a_2way);
+    describe("describe, ZERO", 15, 0xC0080011, BIRDAGHOL_FIELDS, 0, zero);
+    describe("describe, more room", 15, 0xA0B1A873, BIRDAGHOL_FIELDS + 2, 0, sumops);
+    describe("describe, flags", 16, UNLISTED, 0, 1, NULL);
+    describe("describe, unlisted", 15, UNLISTED, 0, 7, NULL);
+    describe("describe, a feature off", 7, UMOPA_2WAY, 0, 8, NULL);
+    describe("describe, no room", 15, UMOPA_2WAY, BIRDAGHOL_FIELDS - 1, 12, NULL);
 }
 
 /* A word on vectors of 16 bytes, all of them FF. */
@@ -43,23 +90,28 @@ static uint32_t execute(uint32_t flags, bool streaming, bool za_on, size_t vb, u
 }
 
 static void bench(void) {
-    const uint32_t list[] = {ZERO, SUMOPA, UNLISTED, SUMOPA};
+    const uint32_t list[] = {ZERO, SUMOPA, UNLISTED, SUMOPA}, two_way[] = {ZERO, UMOPA_2WAY};
     const uint8_t sum[] = {0x04, 0xFC, 0xFF, 0xFF};
+    const uint8_t two_way_sum[] = {0x02, 0x00, 0xFC, 0xFF};
     memset(z, 0xFF, sizeof z);
     memset(p, 0xFF, sizeof p);
     expect("execute", execute(7, true, true, VB, SUMOPA), 0);
     expect("execute, its sum", (uint64_t)memcmp(za, sum, sizeof sum), 0);
-    expect("execute, flags", execute(8, true, true, VB, ZERO), 1);
+    expect("execute, flags", execute(16, true, true, VB, ZERO), 1);
     expect("execute, a length", execute(7, true, true, 15, ZERO), 2);
     expect("execute, streaming off", execute(7, false, true, VB, SUMOPA), 9);
     expect("execute, ZA off", execute(7, true, false, VB, SUMOPA), 10);
     expect("run, Z too short", birdaghol_run(7, true, true, VB, z, 511, p, sizeof p, za, sizeof za, list, 4), packed(0, 3));
     expect("run", birdaghol_run(7, true, true, VB, z, sizeof z, p, sizeof p, za, sizeof za, list, 4), packed(2, 7));
     expect("run, its sum", (uint64_t)memcmp(za, sum, sizeof sum), 0);
+    expect("run, 2-way", birdaghol_run(15, true, true, VB, z, sizeof z, p, sizeof p, za, sizeof za, two_way, 2), packed(2, 0));
+    expect("run, its 2-way sum", (uint64_t)memcmp(za, two_way_sum, sizeof two_way_sum), 0);
 }
 
 int main(void) {
     words();
+    encodings();
+    descriptions();
     bench();
     puts(wrong ? "calls from C: wrong" : "calls from C: as they should be");
     return wrong;

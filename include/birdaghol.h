@@ -1,13 +1,14 @@
 /* Birdaghol for C: Arm SME integer outer products, decoded, encoded, printed and replayed by proved code.
    Link target/staticlib/libbirdaghol.a, which `rt staticlib birdaghol` writes, into programs for x86-64.
 
-   Flags are the sum of the features that are on: 1 SME, 2 I16I64, 4 MOP4. vb is the vector length in bytes.
+   Flags are the sum of the features that are on: 1 SME, 2 I16I64, 4 MOP4, 8 SME2. vb is the vector length in bytes.
    z has 32 * vb bytes, register by register; p has 2 * vb bytes, 16 predicates of one bit for each vector byte, lowest
    first; za has vb rows of vb bytes. Numbers in them are little-endian.
 
-   Refusals, in the order of the tests: 1 flags above 7; 2 vb not 16, 32, 64, 128 or 256; 3, 4, 5 z, p, za of another
+   Refusals, in the order of the tests: 1 flags above 15; 2 vb not 16, 32, 64, 128 or 256; 3, 4, 5 z, p, za of another
    length; 6 a list of over 4,096 words; 7 a word that is not listed; 8 a word that needs a feature that is off; 9 an
-   outer product with streaming mode off; 10 ZA off; 11 a field out of range; 12 a room shorter than the text.
+   outer product with streaming mode off; 10 ZA off; 11 a field out of range; 12 a room shorter than the text, or fewer
+   fields than BIRDAGHOL_FIELDS.
    An answer of 64 bits is value * 256 + refusal: BIRDAGHOL_VALUE and BIRDAGHOL_REFUSAL take it apart. The value is 0
    beside a refusal, but for birdaghol_run.
 
@@ -33,18 +34,34 @@ uint32_t birdaghol_decode(uint32_t flags, uint32_t word);
 /* Puts the text of a word, 63 bytes at most and no 0 after it, at the start of room. Value: its length. */
 uint64_t birdaghol_print(uint32_t flags, uint32_t word, uint8_t *room, size_t room_len);
 
-/* The word of a predicated outer product. Value: the word. Refusal: 11, unless element_bytes is 4 or 8, the tile below
-   it, predicates pn and pm are below 8, vectors zn and zm below 32. */
-uint64_t birdaghol_encode_predicated(uint32_t element_bytes, bool first_unsigned, bool second_unsigned, bool subtract,
-                                     uint32_t tile, uint32_t pn, uint32_t pm, uint32_t zn, uint32_t zm);
+/* The word of a predicated outer product. Value: the word. Refusal: 11, unless element_bytes is 4 or 8; products is 4,
+   or 2 where element_bytes is 4 and the signs are alike; the tile is below element_bytes, predicates pn and pm below 8,
+   vectors zn and zm below 32. */
+uint64_t birdaghol_encode_predicated(uint32_t element_bytes, uint32_t products, bool first_unsigned,
+                                     bool second_unsigned, bool subtract, uint32_t tile, uint32_t pn, uint32_t pm,
+                                     uint32_t zn, uint32_t zm);
 
 /* The word of a quarter-tile outer product; a pair is given by its first vector. Value: the word. Refusal: 11, unless
-   element_bytes is 4 or 8, the tile below it, first even and 0 to 14, second even and 16 to 30. */
-uint64_t birdaghol_encode_quarter(uint32_t element_bytes, bool first_unsigned, bool second_unsigned, bool subtract,
-                                  uint32_t tile, uint32_t first, bool first_pair, uint32_t second, bool second_pair);
+   element_bytes, products, signs and tile are as above, first is even and 0 to 14, second even and 16 to 30. */
+uint64_t birdaghol_encode_quarter(uint32_t element_bytes, uint32_t products, bool first_unsigned, bool second_unsigned,
+                                  bool subtract, uint32_t tile, uint32_t first, bool first_pair, uint32_t second,
+                                  bool second_pair);
 
 /* The word of a ZERO of the 64-bit tiles whose bits are set. Value: the word. No mask is refused. */
 uint64_t birdaghol_encode_zero(uint8_t mask);
+
+/* The kinds of instructions, one for each encode function. */
+#define BIRDAGHOL_PREDICATED 1
+#define BIRDAGHOL_QUARTER 2
+#define BIRDAGHOL_ZERO 3
+
+/* How many numbers describe a word. */
+#define BIRDAGHOL_FIELDS 11
+
+/* Puts the description of a word at the start of fields: its kind, then the ten arguments of the encode function for it
+   in their order, true as 1 and false as 0; for a ZERO, the mask and nine zeros. Later numbers stay. 0, or the refusal,
+   1, 7, 8 or 12, which leaves all of fields as they were. */
+uint32_t birdaghol_describe(uint32_t flags, uint32_t word, uint32_t *fields, size_t fields_len);
 
 /* Executes a word on za: 0, or the refusal, which leaves za as it was. */
 uint32_t birdaghol_execute(uint32_t flags, bool streaming, bool za_on, size_t vb, const uint8_t *z, size_t z_len,

@@ -8,9 +8,18 @@ mod pseudocode;
 mod sample;
 
 use birdaghol::{Bench, Ended};
-use sample::Random;
+use sample::{LINES, Random};
 use std::hint::black_box;
 use std::time::Instant;
+
+/// Every feature.
+const FLAGS: u32 = 15;
+
+/// The outer products of a run: UMOPA on 32-bit elements, and SMOP4S on 64-bit ones.
+const FOUR_WAY: [u32; 2] = [0xA1A0_0000, 0xA0C0_0018];
+
+/// The 2-way UMOPA and SMOP4S.
+const TWO_WAY: [u32; 2] = [0xA180_0008, 0x8000_8018];
 
 /// Words for each rate.
 const WORDS: u64 = 200_000;
@@ -20,27 +29,41 @@ const HALF: u8 = 0x33;
 
 /// Prints one table: the runs first, then the rates.
 fn main() {
-    println!("{:<26}{:>12}{:>16}{:>8}", "", "library", "ordinary Rust", "ratio");
+    println!("{:<32}{:>12}{:>16}{:>8}", "", "library", "ordinary Rust", "ratio");
     for (vb, rounds) in [(16, 500), (64, 200), (256, 50)] {
-        for (active, predicates) in [("all", 0xFF), ("half", HALF)] {
-            let times = run(vb, rounds, predicates);
-            row(&format!("run, VB {vb}, {active} active"), "ms", times.map(|seconds| seconds * 1e3));
-        }
+        runs(vb, rounds);
     }
+    rates();
+    println!("A ratio is the library's time divided by that of the ordinary program.");
+}
+
+/// The lines for the runs at one vector length.
+fn runs(vb: usize, rounds: usize) {
+    for (name, products, predicates) in
+        [("all active", FOUR_WAY, 0xFF), ("half active", FOUR_WAY, HALF), ("2-way, all active", TWO_WAY, 0xFF)]
+    {
+        let times = run(vb, rounds, products, predicates);
+        row(&format!("run, VB {vb}, {name}"), "ms", times.map(|seconds| seconds * 1e3));
+    }
+}
+
+/// The lines for listed words but the 2-way ones, for these, and for random words.
+fn rates() {
     let random = &mut Random::new(1);
-    let listed: Vec<u32> = (0..WORDS).map(|_| sample::listed(random)).collect();
+    let (lines, two_way_lines) = LINES.split_at(5);
+    let listed: Vec<u32> = (0..WORDS).map(|_| sample::of_lines(random, lines)).collect();
     let any: Vec<u32> = (0..WORDS).map(|_| random.u32()).collect();
-    for (mix, words) in [("listed words", listed), ("random words", any)] {
+    let two_way: Vec<u32> = (0..WORDS).map(|_| sample::of_lines(random, two_way_lines)).collect();
+    for (mix, words) in [("listed words", listed), ("2-way words", two_way), ("random words", any)] {
         row(&format!("decode, {mix}"), "M/s", decode(&words).map(rate));
         row(&format!("print, {mix}"), "M/s", print(&words).map(rate));
     }
-    println!("A ratio is the library's time divided by that of the ordinary program.");
 }
 
 /// One line of the table; where figures are rates, the ratio of times is that of the rates turned over.
 fn row(name: &str, unit: &str, [library, ordinary]: [f64; 2]) {
     let ratio = if unit == "ms" { library / ordinary } else { ordinary / library };
-    println!("{name:<26}{library:>8.3} {unit:<3}{ordinary:>12.3} {unit:<3}{ratio:>8.2}");
+    println!("{name:<32}{library:>8.3} {unit:<3}{ordinary:>12.3} {unit:<3}{ratio:>8.2}");
 }
 
 /// Millions of words a second.
@@ -49,19 +72,19 @@ fn rate(seconds: f64) -> f64 {
 }
 
 /// The list that the bench is measured by: ZERO of all, then two outer products in turn.
-fn words() -> Vec<u32> {
-    let products = [0xA1A0_0000, 0xA0C0_0018].into_iter().cycle().take(4095);
+fn words(products: [u32; 2]) -> Vec<u32> {
+    let products = products.into_iter().cycle().take(4095);
     [0xC008_00FF].into_iter().chain(products).collect()
 }
 
 /// Times both runs of the list, with the same byte throughout the predicates, and makes sure that they end alike.
-fn run(vb: usize, rounds: usize, predicates: u8) -> [f64; 2] {
+fn run(vb: usize, rounds: usize, products: [u32; 2], predicates: u8) -> [f64; 2] {
     let z: Vec<u8> = (0..32 * vb).map(|i| (i % 251) as u8).collect();
     let p = vec![predicates; 2 * vb];
     let (mut za, mut ordinary_za) = (vec![0xA5; vb * vb], vec![0xA5; vb * vb]);
-    let words = words();
-    let bench = Bench { flags: 7, streaming: true, za_on: true, vb };
-    let ordinary_bench = pseudocode::Bench { flags: 7, streaming: true, za_on: true, vb };
+    let words = words(products);
+    let bench = Bench { flags: FLAGS, streaming: true, za_on: true, vb };
+    let ordinary_bench = pseudocode::Bench { flags: FLAGS, streaming: true, za_on: true, vb };
 
     let times = race(
         rounds,
@@ -81,8 +104,8 @@ fn run(vb: usize, rounds: usize, predicates: u8) -> [f64; 2] {
 /// Times both decoders over the words.
 fn decode(words: &[u32]) -> [f64; 2] {
     let each = |accepts: fn(u32) -> bool| words.iter().filter(|&&word| accepts(black_box(word))).count();
-    let library = || each(|word| birdaghol::decode(7, word).is_ok());
-    let ordinary = || each(|word| black_box(pseudocode::decode(7, word)).is_ok());
+    let library = || each(|word| birdaghol::decode(FLAGS, word).is_ok());
+    let ordinary = || each(|word| black_box(pseudocode::decode(FLAGS, word)).is_ok());
     assert_eq!(library(), ordinary());
     race(20, || _ = black_box(library()), || _ = black_box(ordinary()))
 }
@@ -93,8 +116,8 @@ fn print(words: &[u32]) -> [f64; 2] {
         let room = &mut [0; 64];
         words.iter().map(|&word| length(black_box(word), black_box(room))).sum::<usize>()
     };
-    let library = || each(|word, room| birdaghol::print(7, word, room).unwrap_or(0));
-    let ordinary = || each(|word, room| pseudocode::print(7, word, room).unwrap_or(0));
+    let library = || each(|word, room| birdaghol::print(FLAGS, word, room).unwrap_or(0));
+    let ordinary = || each(|word, room| pseudocode::print(FLAGS, word, room).unwrap_or(0));
     assert_eq!(library(), ordinary());
     race(20, || _ = black_box(library()), || _ = black_box(ordinary()))
 }

@@ -1,6 +1,14 @@
 //! The functions of the static library as C sees them: a buffer is its address and its length. A result of 64 bits is
 //! a value times 256, plus the refusal's number; one of 32 bits is that number alone.
 
+/// The kinds of instructions, a description's first number.
+pub const PREDICATED: u32 = 1;
+pub const QUARTER: u32 = 2;
+pub const ZERO: u32 = 3;
+
+/// How many numbers describe a word: the kind, and what the encode function of that kind takes, or zeros.
+pub const FIELDS: usize = 11;
+
 unsafe extern "C" {
     pub safe fn birdaghol_decode(flags: u32, word: u32) -> u32;
 
@@ -8,6 +16,7 @@ unsafe extern "C" {
 
     pub safe fn birdaghol_encode_predicated(
         element_bytes: u32,
+        products: u32,
         first_unsigned: bool,
         second_unsigned: bool,
         subtract: bool,
@@ -20,6 +29,7 @@ unsafe extern "C" {
 
     pub safe fn birdaghol_encode_quarter(
         element_bytes: u32,
+        products: u32,
         first_unsigned: bool,
         second_unsigned: bool,
         subtract: bool,
@@ -31,6 +41,8 @@ unsafe extern "C" {
     ) -> u64;
 
     pub safe fn birdaghol_encode_zero(mask: u8) -> u64;
+
+    pub fn birdaghol_describe(flags: u32, word: u32, fields: *mut u32, fields_len: usize) -> u32;
 
     pub fn birdaghol_execute(
         flags: u32,

@@ -16,7 +16,7 @@ struct Readme;
 /// What words are executed with.
 #[derive(Clone, Copy, Debug, PartialEq, Eq)]
 pub struct Bench {
-    /// The sum of the features that are on: 1 SME, 2 I16I64, 4 MOP4.
+    /// The sum of the features that are on: 1 SME, 2 I16I64, 4 MOP4, 8 SME2.
     pub flags: u32,
     /// Streaming mode, which outer products need.
     pub streaming: bool,
@@ -31,6 +31,8 @@ pub struct Bench {
 pub struct Operation {
     /// The bytes of a tile element, 4 or 8.
     pub element_bytes: u32,
+    /// The products that each element gets: 4, or 2 where elements have 4 bytes and both sources one sign.
+    pub products: u32,
     /// Whether the elements of the first source are unsigned.
     pub first_unsigned: bool,
     /// Whether the elements of the second source are unsigned.
@@ -87,6 +89,7 @@ pub fn encode(instruction: Instruction) -> Result<u32, Refusal> {
     let answer = match instruction {
         Instruction::Predicated { op, tile, pn, pm, zn, zm } => abi::birdaghol_encode_predicated(
             op.element_bytes,
+            op.products,
             op.first_unsigned,
             op.second_unsigned,
             op.subtract,
@@ -98,6 +101,7 @@ pub fn encode(instruction: Instruction) -> Result<u32, Refusal> {
         ),
         Instruction::Quarter { op, tile, first, second } => abi::birdaghol_encode_quarter(
             op.element_bytes,
+            op.products,
             op.first_unsigned,
             op.second_unsigned,
             op.subtract,
@@ -110,6 +114,14 @@ pub fn encode(instruction: Instruction) -> Result<u32, Refusal> {
         Instruction::Zero { mask } => abi::birdaghol_encode_zero(mask),
     };
     value(answer).map(|word| word as u32)
+}
+
+/// The description of a word that is listed and has its features on; [`encode`] makes it that word again.
+pub fn describe(flags: u32, word: u32) -> Result<Instruction, Refusal> {
+    let mut fields = [0; abi::FIELDS];
+    // SAFETY: the address and the length are those of one array, lent for this call alone.
+    accepted(unsafe { abi::birdaghol_describe(flags, word, fields.as_mut_ptr(), fields.len()) })?;
+    Ok(Instruction::of(fields))
 }
 
 /// Executes one word. `z` is 32 vectors of `vb` bytes, `p` 16 predicates of `vb` bits, `za` `vb` rows of `vb` bytes.
@@ -154,7 +166,42 @@ pub fn run(bench: Bench, z: &[u8], p: &[u8], za: &mut [u8], words: &[u32]) -> En
     Ended { count: count as usize, refusal }
 }
 
+impl Instruction {
+    /// The instruction that these numbers describe.
+    fn of(fields: [u32; abi::FIELDS]) -> Instruction {
+        match fields {
+            [abi::PREDICATED, op @ .., tile, pn, pm, zn, zm] => {
+                Instruction::Predicated { op: Operation::of(op), tile, pn, pm, zn, zm }
+            }
+            [abi::QUARTER, op @ .., tile, first, first_pair, second, second_pair] => {
+                let (first, second) = (Source::of(first, first_pair), Source::of(second, second_pair));
+                Instruction::Quarter { op: Operation::of(op), tile, first, second }
+            }
+            [abi::ZERO, mask, ..] => Instruction::Zero { mask: mask as u8 },
+            [kind, ..] => unreachable!("{kind} is no kind of instruction"),
+        }
+    }
+}
+
+impl Operation {
+    /// The operation of these numbers, in the order of its fields.
+    fn of([element_bytes, products, first_unsigned, second_unsigned, subtract]: [u32; 5]) -> Operation {
+        Operation {
+            element_bytes,
+            products,
+            first_unsigned: first_unsigned == 1,
+            second_unsigned: second_unsigned == 1,
+            subtract: subtract == 1,
+        }
+    }
+}
+
 impl Source {
+    /// The source that starts at a register, a pair if 1 says so.
+    fn of(register: u32, pair: u32) -> Source {
+        if pair == 1 { Source::Pair(register) } else { Source::One(register) }
+    }
+
     /// The first register.
     fn register(self) -> u32 {
         match self {

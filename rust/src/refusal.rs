@@ -53,7 +53,7 @@ impl fmt::Display for Refusal {
     /// What was wrong, in a few words.
     fn fmt(&self, f: &mut fmt::Formatter) -> fmt::Result {
         f.write_str(match self {
-            Refusal::Flags => "flags are above 7",
+            Refusal::Flags => "flags are above 15",
             Refusal::VectorLength => "the vector length is not 16, 32, 64, 128 or 256 bytes",
             Refusal::ZLength => "Z does not hold 32 vectors",
             Refusal::PLength => "P does not hold 16 predicates",

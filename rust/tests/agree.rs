@@ -1,10 +1,13 @@
 //! Holds the library against the independent implementation, on random input of every sort.
 
+#[allow(dead_code)]
+#[path = "../src/abi.rs"]
+mod abi;
 mod pseudocode;
 mod sample;
 
 use birdaghol::{Bench, Operation, Refusal, Source};
-use pseudocode::{Instruction, Sources};
+use pseudocode::{Instruction, OuterProduct, Sources};
 use sample::{Case, Guarded, Random, Tally, seeds};
 use std::fmt::Debug;
 
@@ -47,6 +50,47 @@ fn print() {
     tally.assert_covers(&[1, 7, 8, 12], 5_000);
 }
 
+/// A word gets the same description under any flags, and that description the word.
+#[test]
+fn describe() {
+    let mut tally = Tally::default();
+    for seed in seeds(1_000_000) {
+        let random = &mut Random::new(seed);
+        let (flags, word) = (sample::flags(random), sample::word(random, 6));
+        let expected = pseudocode::decode(flags, word).map(described);
+        let answer = birdaghol::describe(flags, word).map_err(Refusal::number);
+        assert_eq!(answer, expected, "seed {seed}: flags {flags}, word {word:08x}");
+        if let Ok(instruction) = answer {
+            assert_eq!(birdaghol::encode(instruction), Ok(word), "seed {seed}: {instruction:?}");
+        }
+        tally.count(word, &expected);
+    }
+    tally.assert_covers(&[1, 7, 8], 10_000);
+}
+
+/// A room of any length gets the same numbers, or stays as it was.
+#[test]
+fn describe_in_rooms() {
+    let mut tally = Tally::default();
+    for seed in seeds(500_000) {
+        let random = &mut Random::new(seed);
+        let (flags, word) = (sample::flags(random), sample::word(random, 6));
+        let length = random.pick(&[0, 1, 2, 6, 9, 10, 10, 11, 11, 11, 12, 13, 22, 64]);
+        let mut fields: Vec<u32> = (0..length).map(|_| random.u32()).collect();
+        let mut room = Guarded::new(&fields);
+        let case = format!("seed {seed}: flags {flags}, word {word:08x}, room {length}");
+
+        let expected = pseudocode::describe(flags, word, &mut fields);
+        let lent = room.lend();
+        // SAFETY: the address and the length are those of one slice, lent for this call alone.
+        let answer = unsafe { abi::birdaghol_describe(flags, word, lent.as_mut_ptr(), lent.len()) };
+        assert_eq!(answer, expected.err().unwrap_or(0), "{case}");
+        assert!(room.holds(&fields), "{case}: other numbers");
+        tally.count(word, &expected);
+    }
+    tally.assert_covers(&[1, 7, 8, 12], 5_000);
+}
+
 /// Fields in range get the same word, others are refused.
 #[test]
 fn encode() {
@@ -54,7 +98,7 @@ fn encode() {
     for seed in seeds(1_000_000) {
         let instruction = sample::instruction(&mut Random::new(seed));
         let expected = pseudocode::encode(instruction);
-        let answer = encoded(instruction).map_err(Refusal::number);
+        let answer = birdaghol::encode(described(instruction)).map_err(Refusal::number);
         assert_eq!(answer, expected, "seed {seed}: {instruction:?}");
         tally.count(expected.unwrap_or(0), &expected);
     }
@@ -66,8 +110,8 @@ fn encode() {
 fn encode_undoes_decode() {
     for seed in seeds(500_000) {
         let word = sample::listed(&mut Random::new(seed));
-        let instruction = pseudocode::decode(7, word).expect("a listed word");
-        assert_eq!(encoded(instruction), Ok(word), "seed {seed}: {instruction:?}");
+        let instruction = pseudocode::decode(15, word).expect("a listed word");
+        assert_eq!(birdaghol::encode(described(instruction)), Ok(word), "seed {seed}: {instruction:?}");
     }
 }
 
@@ -168,28 +212,22 @@ fn bench(case: &Case) -> Bench {
     Bench { flags: case.bench.flags, streaming: case.bench.streaming, za_on: case.bench.za_on, vb: case.bench.vb }
 }
 
-/// The library's word for an instruction of the independent implementation.
-fn encoded(instruction: Instruction) -> Result<u32, Refusal> {
-    let op = match instruction {
-        Instruction::Outer(op) => op,
-        Instruction::Zero { mask } => return birdaghol::encode(birdaghol::Instruction::Zero { mask }),
-    };
-    let tile = op.tile;
+/// The library's description for an instruction of the independent implementation.
+fn described(instruction: Instruction) -> birdaghol::Instruction {
+    let OuterProduct { element_bytes, products, first_unsigned, second_unsigned, subtract, tile, sources } =
+        match instruction {
+            Instruction::Outer(op) => op,
+            Instruction::Zero { mask } => return birdaghol::Instruction::Zero { mask },
+        };
+    let op = Operation { element_bytes, products, first_unsigned, second_unsigned, subtract };
     let source = |pseudocode::Source { register, pair }| match pair {
         false => Source::One(register),
         true => Source::Pair(register),
     };
-    let sources = op.sources;
-    let op = Operation {
-        element_bytes: op.element_bytes,
-        first_unsigned: op.first_unsigned,
-        second_unsigned: op.second_unsigned,
-        subtract: op.subtract,
-    };
-    birdaghol::encode(match sources {
+    match sources {
         Sources::Predicated { pn, pm, zn, zm } => birdaghol::Instruction::Predicated { op, tile, pn, pm, zn, zm },
         Sources::Quarter { first, second } => {
             birdaghol::Instruction::Quarter { op, tile, first: source(first), second: source(second) }
         }
-    })
+    }
 }

@@ -1,9 +1,10 @@
 //! The bench examples of the rules, through the safe functions.
 
-use birdaghol::{Bench, Ended, Instruction, Operation, Refusal, Source, decode, encode, execute, print, run};
+use birdaghol::{Bench, Ended, Instruction, Operation, Refusal, Source, decode, describe, encode, execute, print, run};
+use std::array;
 
 /// Every feature and both modes on, vectors of 16 bytes.
-const BENCH: Bench = Bench { flags: 7, streaming: true, za_on: true, vb: 16 };
+const BENCH: Bench = Bench { flags: 15, streaming: true, za_on: true, vb: 16 };
 
 /// The clearing of all of ZA.
 const ZERO: u32 = 0xC008_00FF;
@@ -13,6 +14,14 @@ const SUMOPA: u32 = 0xA0A1_2000;
 const SUMOPS: u32 = 0xA0A1_2010;
 const UMOPA: u32 = 0xA1A1_2000;
 const UMOPA_WIDE: u32 = 0xA1E1_2000;
+const SMOPA_2WAY: u32 = 0xA081_2008;
+const SMOPS_2WAY: u32 = 0xA081_2018;
+const UMOPA_2WAY: u32 = 0xA181_2008;
+const UMOPS_2WAY: u32 = 0xA181_2018;
+
+/// A 2-way operation on signed elements.
+const SIGNED_2WAY: Operation =
+    Operation { element_bytes: 4, products: 2, first_unsigned: false, second_unsigned: false, subtract: false };
 
 /// The text of a word.
 fn text(flags: u32, word: u32) -> Result<String, Refusal> {
@@ -60,16 +69,67 @@ fn texts_and_refused_words() {
 }
 
 #[test]
-fn words_of_descriptions() {
-    let op = Operation { element_bytes: 4, first_unsigned: false, second_unsigned: true, subtract: true };
-    let sumops = Instruction::Predicated { op, tile: 3, pn: 2, pm: 5, zn: 3, zm: 17 };
-    assert_eq!(encode(sumops), Ok(0xA0B1_A873));
+fn two_way_texts_and_refused_words() {
+    for (flags, word, line) in [
+        (15, 0xA080_0008, "smopa za0.s, p0/m, p0/m, z0.h, z0.h"),
+        (8, 0xA180_0018, "umops za0.s, p0/m, p0/m, z0.h, z0.h"),
+        (15, 0x8000_8008, "smop4a za0.s, z0.h, z16.h"),
+        (4, 0x8000_8008, "smop4a za0.s, z0.h, z16.h"),
+        (4, 0x8100_8018, "umop4s za0.s, z0.h, z16.h"),
+        (15, 0x811E_835A, "umop4s za2.s, { z10.h-z11.h }, { z30.h-z31.h }"),
+    ] {
+        assert_eq!(text(flags, word).as_deref(), Ok(line));
+    }
+    for word in [0xA0A0_0008, 0x8020_8008] {
+        assert_eq!(decode(15, word), Err(Refusal::Unlisted), "mixed signs");
+    }
+    assert_eq!(decode(7, 0xA080_0008), Err(Refusal::FeatureOff));
+    assert_eq!(decode(11, 0x8000_8008), Err(Refusal::FeatureOff));
+    assert_eq!(decode(16, 0xA080_0008), Err(Refusal::Flags));
+}
 
+#[test]
+fn words_of_descriptions_and_back() {
+    let op = Operation { element_bytes: 4, products: 4, first_unsigned: false, second_unsigned: true, subtract: true };
+    let sumops = Instruction::Predicated { op, tile: 3, pn: 2, pm: 5, zn: 3, zm: 17 };
     let op = Operation { first_unsigned: true, second_unsigned: false, ..op };
     let usmop4s = Instruction::Quarter { op, tile: 2, first: Source::Pair(10), second: Source::Pair(30) };
-    assert_eq!(encode(usmop4s), Ok(0x811E_8352));
+    let op = SIGNED_2WAY;
+    let smopa = Instruction::Predicated { op, tile: 3, pn: 2, pm: 5, zn: 3, zm: 17 };
+    let smop4a = Instruction::Quarter { op, tile: 2, first: Source::Pair(10), second: Source::One(30) };
+    for (instruction, word) in [
+        (sumops, 0xA0B1_A873),
+        (usmop4s, 0x811E_8352),
+        (smopa, 0xA091_A86B),
+        (smop4a, 0x800E_834A),
+        (Instruction::Zero { mask: 0x11 }, 0xC008_0011),
+    ] {
+        assert_eq!(encode(instruction), Ok(word));
+        assert_eq!(describe(15, word), Ok(instruction));
+    }
+    for (flags, word, refusal) in
+        [(16, 0x8100_0010, Refusal::Flags), (15, 0x8100_0010, Refusal::Unlisted), (7, 0xA091_A86B, Refusal::FeatureOff)]
+    {
+        assert_eq!(describe(flags, word), Err(refusal));
+    }
+}
 
-    assert_eq!(encode(Instruction::Zero { mask: 0x11 }), Ok(0xC008_0011));
+#[test]
+fn operations_that_do_not_exist() {
+    for op in [
+        Operation { first_unsigned: true, ..SIGNED_2WAY },
+        Operation { second_unsigned: true, ..SIGNED_2WAY },
+        Operation { element_bytes: 8, ..SIGNED_2WAY },
+        Operation { products: 0, ..SIGNED_2WAY },
+        Operation { products: 1, ..SIGNED_2WAY },
+        Operation { products: 3, ..SIGNED_2WAY },
+        Operation { products: 5, ..SIGNED_2WAY },
+        Operation { products: u32::MAX, ..SIGNED_2WAY },
+    ] {
+        let predicated = Instruction::Predicated { op, tile: 0, pn: 0, pm: 0, zn: 0, zm: 0 };
+        let quarter = Instruction::Quarter { op, tile: 0, first: Source::One(0), second: Source::One(16) };
+        assert_eq!([predicated, quarter].map(encode), [Err(Refusal::OutOfRange); 2], "{op:?}");
+    }
 }
 
 #[test]
@@ -78,9 +138,9 @@ fn every_refusal_by_its_name() {
         let ended = run(bench, &vec![0; z], &vec![0; p], &mut vec![0; za], &vec![UMOPA; words]);
         ended.refusal.expect("a refusal")
     };
-    let op = Operation { element_bytes: 16, first_unsigned: false, second_unsigned: false, subtract: false };
+    let op = Operation { element_bytes: 16, products: 4, ..SIGNED_2WAY };
     let refusals = [
-        (stopped(Bench { flags: 8, ..BENCH }, 512, 32, 256, 1), Refusal::Flags),
+        (stopped(Bench { flags: 16, ..BENCH }, 512, 32, 256, 1), Refusal::Flags),
         (stopped(Bench { vb: 15, ..BENCH }, 512, 32, 256, 1), Refusal::VectorLength),
         (stopped(BENCH, 511, 32, 256, 1), Refusal::ZLength),
         (stopped(BENCH, 512, 31, 256, 1), Refusal::PLength),
@@ -121,6 +181,45 @@ fn totals_and_carries() {
     let start = 0xFFFF_FFFF_u64.to_le_bytes();
     assert_eq!(replay(one(0), one(0), &start, &[UMOPA, UMOPA_WIDE])[..8], 1_u64.to_le_bytes());
     assert_eq!(replay(one(0), one(0), &start, &[UMOPA_WIDE, UMOPA])[..8], 0x1_0000_0001_u64.to_le_bytes());
+}
+
+#[test]
+fn two_way_totals() {
+    let high: [u8; 16] = array::from_fn(|byte| if byte % 2 == 1 { 0x80 } else { 0 });
+    for (word, total) in
+        [(SMOPA_2WAY, 2_u32), (SMOPS_2WAY, 0xFFFF_FFFE), (UMOPA_2WAY, 0xFFFC_0002), (UMOPS_2WAY, 0x0003_FFFE)]
+    {
+        assert_eq!(replay([0xFF; 16], [0xFF; 16], &[], &[word])[..16], total.to_le_bytes().repeat(4));
+        assert_eq!(replay(high, high, &[], &[word])[..4], 0x8000_0000_u32.to_le_bytes());
+    }
+    let mut carried = [0xFF; 256];
+    carried[156..160].fill(0);
+    assert_eq!(replay(one(10), one(14), &[0xFF; 256], &[SMOPA_2WAY + 1]), carried, "za1.s (2, 3)");
+    assert_eq!(replay(one(10), one(12), &[], &[SMOPA_2WAY + 1]), [0; 256], "another k");
+}
+
+#[test]
+fn two_way_activity_goes_by_even_bits() {
+    let after = |predicates, word| {
+        let mut za = [7; 256];
+        assert_eq!(execute(BENCH, &[0xFF; 512], &[predicates; 32], &mut za, word), Ok(()));
+        za
+    };
+    assert_eq!(after(0xAA, SMOPA_2WAY), [7; 256]);
+    assert_eq!(after(0x55, SMOPA_2WAY), after(0xFF, SMOPA_2WAY));
+    assert_eq!(after(0x11, SMOPA_2WAY)[..4], [8, 7, 7, 7]);
+}
+
+#[test]
+fn two_way_pairs_serve_halves() {
+    let mut z = [0; 512];
+    for (vector, element) in [(0, 1), (1, 2), (16, 3), (17, 5)] {
+        z[16 * vector..][..16].copy_from_slice(&[element, 0].repeat(8));
+    }
+    let mut za = [0; 256];
+    assert_eq!(execute(BENCH, &z, &[0; 32], &mut za, 0x8010_8208), Ok(()));
+    let rows: Vec<[u8; 4]> = (0..4).map(|row| [0, 4, 8, 12].map(|column| za[64 * row + column])).collect();
+    assert_eq!(rows, [[6, 6, 12, 12], [6, 6, 12, 12], [10, 10, 20, 20], [10, 10, 20, 20]]);
 }
 
 #[test]

@@ -1,4 +1,5 @@
-// Runs the bench examples of document 01 and writes what comes of each: its number (0: done), then what it left.
+// Runs the bench examples of document 01, and some of the 2-way outer products, and writes what comes of each: its number
+// (0: done), then what it left.
 ghost use mathlib.Core.Path.{_≡_};
 ghost use Prim.Native.Nat.{_≤_};
 ghost use lib.ListN.{length};
@@ -9,7 +10,10 @@ use replay::Bench;
 use replay::Outcome;
 use text::Printed;
 
-const ALL_FEATURES: u32 = 7;
+// Document 01's flags where it gives none.
+const FLAGS: u32 = 7;
+
+const ALL_FEATURES: u32 = 15;
 
 // Words on Z0, all of them with P0 unless the name says otherwise.
 const SMOPA: u32 = 0xA080_0000;
@@ -31,6 +35,15 @@ const UMOPA_ZA1: u32 = 0xA1A1_0001;
 
 const UMOPA_ZA5_WIDE: u32 = 0xA1E1_0005;
 
+// The 2-way forms: predicated ones on Z0, and a quarter-tile one on Z0 and Z16.
+const SMOPA_TWO_WAY: u32 = 0xA080_0008;
+
+const UMOPA_TWO_WAY: u32 = 0xA180_0008;
+
+const UMOPS_TWO_WAY: u32 = 0xA180_0018;
+
+const SMOP4S_TWO_WAY: u32 = 0x8000_8018;
+
 // One word more than a run takes.
 const LIST_ROOM: usize = 4097;
 
@@ -43,34 +56,80 @@ fn main() {
     modes();
     lists();
     lengths();
+    two_way_words();
+    two_way_sums();
 }
 
 fn texts() {
-    text_of(ALL_FEATURES, 0xA0A0_0010);
-    text_of(ALL_FEATURES, 0xA0B1_A873);
-    text_of(ALL_FEATURES, 0x811E_8352);
-    text_of(ALL_FEATURES, 0x8100_0010);
-    text_of(ALL_FEATURES, 0x8100_8010);
-    text_of(ALL_FEATURES, 0xA0E0_0018);
-    text_of(ALL_FEATURES, 0xA0E1_0018);
-    text_of(ALL_FEATURES, 0xA0E0_0038);
+    text_of(FLAGS, 0xA0A0_0010);
+    text_of(FLAGS, 0xA0B1_A873);
+    text_of(FLAGS, 0x811E_8352);
+    text_of(FLAGS, 0x8100_0010);
+    text_of(FLAGS, 0x8100_8010);
+    text_of(FLAGS, 0xA0E0_0018);
+    text_of(FLAGS, 0xA0E1_0018);
+    text_of(FLAGS, 0xA0E0_0038);
     text_of(4, 0xA1C0_001F);
     text_of(6, 0xA1C0_001F);
-    text_of(ALL_FEATURES, 0xC008_0100);
+    text_of(FLAGS, 0xC008_0100);
     tile_of(6, 0xA1C0_001F);
 }
 
 // The words that the examples below execute, so that their names can be held against them.
 fn words_executed() {
-    text_of(ALL_FEATURES, SMOPA);
-    text_of(ALL_FEATURES, SUMOPA);
-    text_of(ALL_FEATURES, SUMOPS);
-    text_of(ALL_FEATURES, UMOPA);
-    text_of(ALL_FEATURES, UMOPA_P0_P1);
-    text_of(ALL_FEATURES, UMOPA_WIDE);
-    text_of(ALL_FEATURES, UMOPA_ZA1);
-    text_of(ALL_FEATURES, UMOPA_ZA5_WIDE);
-    text_of(ALL_FEATURES, ZERO_ALL);
+    text_of(FLAGS, SMOPA);
+    text_of(FLAGS, SUMOPA);
+    text_of(FLAGS, SUMOPS);
+    text_of(FLAGS, UMOPA);
+    text_of(FLAGS, UMOPA_P0_P1);
+    text_of(FLAGS, UMOPA_WIDE);
+    text_of(FLAGS, UMOPA_ZA1);
+    text_of(FLAGS, UMOPA_ZA5_WIDE);
+    text_of(FLAGS, ZERO_ALL);
+}
+
+fn two_way_words() {
+    text_of(ALL_FEATURES, SMOPA_TWO_WAY);
+    text_of(ALL_FEATURES, UMOPA_TWO_WAY);
+    text_of(ALL_FEATURES, UMOPS_TWO_WAY);
+    text_of(ALL_FEATURES, SMOP4S_TWO_WAY);
+    text_of(ALL_FEATURES, 0x8100_8018);
+    // No form has sources of different signs.
+    text_of(ALL_FEATURES, 0xA0A0_0008);
+    text_of(ALL_FEATURES, 0x8020_8008);
+    text_of(FLAGS, SMOPA_TWO_WAY);
+    text_of(4, 0x8000_8008);
+    text_of(16, SMOPA_TWO_WAY);
+}
+
+// Sources all FF, so that a product is 1 or 65,535 times itself; predicate bit 2·e alone decides on element e.
+fn two_way_sums() {
+    let z = [0xFFu8; 512];
+    let p = [0xFFu8; 32];
+    let bench = with_flags(ALL_FEATURES);
+    example(b"smopa, 2-way", bench, &z, &p, 0, SMOPA_TWO_WAY);
+    example(b"umopa, 2-way", bench, &z, &p, 0, UMOPA_TWO_WAY);
+    example(b"umops, 2-way", bench, &z, &p, 0, UMOPS_TWO_WAY);
+    example(b"smop4s, 2-way", bench, &z, &p, 0, SMOP4S_TWO_WAY);
+    let even = [0x55u8; 32];
+    example(
+        b"smopa, 2-way, even bits",
+        bench,
+        &z,
+        &even,
+        0,
+        SMOPA_TWO_WAY,
+    );
+    let odd = [0xAAu8; 32];
+    example(b"smopa, 2-way, odd bits", bench, &z, &odd, 0, SMOPA_TWO_WAY);
+    example(
+        b"smopa, 2-way, without sme2",
+        with_flags(FLAGS),
+        &z,
+        &p,
+        0,
+        SMOPA_TWO_WAY,
+    );
 }
 
 // A single product of 1 comes to one element, and shows where that is.
@@ -190,16 +249,25 @@ fn on() -> Bench {
 
 fn modes_of(sm: bool, za: bool) -> Bench {
     Bench {
-        flags: ALL_FEATURES,
+        flags: FLAGS,
         sm,
         za,
         vb: 16,
     }
 }
 
+fn with_flags(flags: u32) -> Bench {
+    Bench {
+        flags,
+        sm: true,
+        za: true,
+        vb: 16,
+    }
+}
+
 fn length_of(vb: usize) -> Bench {
     Bench {
-        flags: ALL_FEATURES,
+        flags: FLAGS,
         sm: true,
         za: true,
         vb,

@@ -1,3 +1,4 @@
 pub mod Packing
+pub mod Fields
 pub mod Theorems
 pub mod Examples

@@ -1,7 +1,7 @@
 -- What a caller reads off an answer: the claims of specs/Claims.antt hold for every call. Assumes nothing.
 use mathlib.Core.Path.{_≡_, sym, refl, ap, subst}
-use mathlib.Core.Bool.{Bool, true, false, cond, _||_}
-use mathlib.Core.Logic.{inl, inr}
+use mathlib.Core.Bool.{Bool, true, false, false≢true, cond, _&&_, _||_}
+use mathlib.Core.Logic.{_⊎_, inl, inr}
 use mathlib.Core.List.{List}
 use mathlib.Core.Option.{none, some}
 use Prim.Native.Nat.{ℕ, _<_}
@@ -9,16 +9,18 @@ use native.Mathlib.Omega.{arith}
 use lib.Dec.{eqb}
 use lib.ListN.{length}
 use borrow.Author.Tests.{eqb-true, ltb-true, leb-true, eq-eqb, lt-ltb, le-leb}
-use Rattle.isa.specs.Table.{ranges, inRange}
+use Rattle.isa.specs.Table.{bit, isFormed, ranges, inRange}
 use Rattle.isa.specs.Claims.{OnlyWord}
 use Rattle.isa.specs.declared.Instruction.{Instruction}
 use Rattle.isa.specs.declared.Instruction.the-variants.{Zero}
 use Rattle.isa.proofs.Tests.{every-all, all-every}
+use Rattle.isa.proofs.Rows.{both}
 use Rattle.isa.proofs.Lines.{source-register}
 use Rattle.isa.proofs.Refusals.{number-between}
 use Rattle.isa.proofs.Answers.{encode-out-of-range}
 use Rattle.isa.proofs.Theorems.{encodes}
 use Rattle.text.specs.Printing.{printOf, printedNumber}
+use Rattle.text.proofs.Theorems.{accepts, same, gives-12, known, unchanged}
 use Rattle.text.specs.declared.Printed.{Printed}
 use Rattle.text.specs.declared.Printed.the-variants.{Length, Refused as NotPrinted}
 use Rattle.replay.specs.Execution.{outcomeNumber}
@@ -26,9 +28,10 @@ use Rattle.replay.specs.Lists.{runOf}
 use Rattle.replay.specs.Machine.{Machine}
 use Rattle.replay.specs.declared.Outcome.{Outcome}
 use Rattle.replay.specs.declared.Outcome.the-variants.{Done, Refused}
-use Rattle.birdaghol.specs.Calls.{packed, sized, packedEncoded, encodeCall, askedPredicated, askedQuarter}
-use Rattle.birdaghol.specs.Claims.{Unpacks, PrintUnpacks, RunUnpacks, ElementSize, PredicatedFits, QuarterFits}
-use Rattle.birdaghol.specs.Claims.{EncodeAnswers, PredicatedAnswers, QuarterAnswers, ZeroAnswers}
+use Rattle.birdaghol.specs.Calls.{packed, sized, operation, packedEncoded, encodeCall, askedPredicated, askedQuarter}
+use Rattle.birdaghol.specs.Claims.{Unpacks, PrintUnpacks, RunUnpacks, ElementSize, Formed, PredicatedFits, QuarterFits}
+use Rattle.birdaghol.specs.Claims.{EncodeAnswers, PredicatedAnswers, QuarterAnswers, ZeroAnswers, Describes}
+use Rattle.birdaghol.proofs.Fields.{ends, fields-rest, fields-encoded}
 
 unpacks : (v n : ℕ) → n < 256 → Unpacks (packed v n) v n
 unpacks v n h = record { value-is = omega arith; refusal-is = omega arith }
@@ -48,60 +51,89 @@ pub run-unpacks : (m : Machine) (ws : List ℕ) → RunUnpacks m ws
 run-unpacks m ws = unpacks _ _ (outcome-number (runOf m ws .outcome))
 
 -- ---- encode
-abbrev size? : ℕ → Bool
-size? bytes = eqb bytes 4 || eqb bytes 8
+abbrev size? : ℕ → ℕ → Bool
+size? bytes products = (eqb bytes 4 || eqb bytes 8) && (eqb products 2 || eqb products 4)
 
-size-passes : (bytes : ℕ) → ElementSize bytes → size? bytes ≡ true
-size-passes bytes (inl e) = rw e
-size-passes bytes (inr e) = rw e
-
-size-passed : (bytes : ℕ) → size? bytes ≡ true → ElementSize bytes
-size-passed bytes h = go (eqb bytes 4) refl h
+one-of : (n a b : ℕ) → eqb n a || eqb n b ≡ true → (n ≡ a) ⊎ (n ≡ b)
+one-of n a b h = go (eqb n a) refl h
   where
-    go : (t : Bool) → eqb bytes 4 ≡ t → t || eqb bytes 8 ≡ true → ElementSize bytes
-    go true e h = inl (eqb-true bytes 4 e)
-    go false e h = inr (eqb-true bytes 8 h)
+    go : (t : Bool) → eqb n a ≡ t → t || eqb n b ≡ true → (n ≡ a) ⊎ (n ≡ b)
+    go true e h = inl (eqb-true n a e)
+    go false e h = inr (eqb-true n b h)
 
 tiles-of-size : (bytes : ℕ) → ElementSize bytes → cond (eqb bytes 8) 8 4 ≡ bytes
 tiles-of-size bytes (inl e) = rw e
 tiles-of-size bytes (inr e) = rw e
 
+one-sign : {a b : Bool} → eqb (bit a) (bit b) ≡ true → a ≡ b
+one-sign {a} {b} e = go a b (eqb-true (bit a) (bit b) e)
+  where
+    go : (a b : Bool) → bit a ≡ bit b → a ≡ b
+    go true true q = refl
+    go true false q = absurd (omega arith)
+    go false true q = absurd (omega arith)
+    go false false q = refl
+
+-- sizes, numbers of products and signs that pass are those that fit
+module _ (bytes products : ℕ) (u0 u1 subtract : Bool) where
+  abbrev formed? : Bool
+  formed? = isFormed (operation bytes products u0 u1 subtract)
+
+  formed-passes : ElementSize bytes → Formed bytes products u0 u1 → (size? bytes products ≡ true) × (formed? ≡ true)
+  formed-passes (inl b) (inl p) = (rw (b, p), rw p)
+  formed-passes (inr b) (inl p) = (rw (b, p), rw p)
+  formed-passes s (inr (p, b, e)) = (rw (b, p), rw (b, p, e) (eq-eqb (bit u1) (bit u1) refl))
+
+  formed-passed : size? bytes products ≡ true → formed? ≡ true → ElementSize bytes × Formed bytes products u0 u1
+  formed-passed s f =
+      let (b, p) = both (eqb bytes 4 || eqb bytes 8) (eqb products 2 || eqb products 4) s in
+      let size = one-of bytes 4 8 b in
+      (size, go size (one-of products 2 4 p))
+    where
+      go : ElementSize bytes → (products ≡ 2) ⊎ (products ≡ 4) → Formed bytes products u0 u1
+      go b (inr p) = inl p
+      go (inl b) (inl p) = inr (p, b, one-sign (rw (b, p) at f))
+      go (inr b) (inl p) = absurd (false≢true (rw (b, p) at f))
+
 -- an encode whose tests pass exactly where its arguments fit
-module _ (bytes : ℕ) (i : Instruction) {Fits : Type 0}
-    (passes : Fits → (size? bytes ≡ true) × (inRange i ≡ true)) (passed : size? bytes ≡ true → inRange i ≡ true → Fits) where
-  fitting : Fits → (w : ℕ) × Unpacks (encodeCall (sized bytes i)) w 0 × OnlyWord i w
+module _ (bytes products : ℕ) (i : Instruction) {Fits : Type 0}
+    (passes : Fits → (size? bytes products ≡ true) × (inRange i ≡ true)) (passed : size? bytes products ≡ true → inRange i ≡ true → Fits) where
+  fitting : Fits → (w : ℕ) × Unpacks (encodeCall (sized bytes products i)) w 0 × OnlyWord i w
   fitting f =
       let (s, r) = passes f in
       let (w, e, o) = encodes i .word r in
       (w, subst (λ a. Unpacks a w 0) (sym (rw s (ap packedEncoded e))) (unpacks w 0 (omega arith)), o)
 
-  unfitting : (Fits → ⊥) → (s r : Bool) → size? bytes ≡ s → inRange i ≡ r → encodeCall (cond s (some i) none) ≡ 11
+  unfitting : (Fits → ⊥) → (s r : Bool) → size? bytes products ≡ s → inRange i ≡ r → encodeCall (cond s (some i) none) ≡ 11
   unfitting n false r p q = refl
   unfitting n true false p q = ap packedEncoded (encode-out-of-range i q)
   unfitting n true true p q = absurd (n (passed p q))
 
-  answers : EncodeAnswers (encodeCall (sized bytes i)) i Fits
+  answers : EncodeAnswers (encodeCall (sized bytes products i)) i Fits
   answers =
       record {
         word = fitting;
-        gives-11 = (λ e f. let u = fitting f .1 .refusal-is in omega arith, λ n. unfitting n (size? bytes) (inRange i) refl refl);
+        gives-11 = (λ e f. let u = fitting f .1 .refusal-is in omega arith, λ n. unfitting n (size? bytes products) (inRange i) refl refl);
       }
 
-module _ (bytes : ℕ) (u0 u1 subtract : Bool) (tile pn pm zn zm : ℕ) where
+module _ (bytes products : ℕ) (u0 u1 subtract : Bool) (tile pn pm zn zm : ℕ) where
   abbrev predicated : Instruction
-  predicated = askedPredicated bytes u0 u1 subtract tile pn pm zn zm
+  predicated = askedPredicated bytes products u0 u1 subtract tile pn pm zn zm
 
-  predicated-passes : PredicatedFits bytes tile pn pm zn zm → (size? bytes ≡ true) × (inRange predicated ≡ true)
+  predicated-passes : PredicatedFits bytes products u0 u1 tile pn pm zn zm → (size? bytes products ≡ true) × (inRange predicated ≡ true)
   predicated-passes f =
       let t = tiles-of-size bytes (f .size) in
-      (size-passes bytes (f .size), all-every (ranges predicated) (omega (arith, lt-ltb)))
+      let (s, o) = formed-passes bytes products u0 u1 subtract (f .size) (f .formed) in
+      (s, all-every (ranges predicated) (o, omega (arith, lt-ltb)))
 
-  predicated-passed : size? bytes ≡ true → inRange predicated ≡ true → PredicatedFits bytes tile pn pm zn zm
+  predicated-passed : size? bytes products ≡ true → inRange predicated ≡ true → PredicatedFits bytes products u0 u1 tile pn pm zn zm
   predicated-passed s r =
-      let e = size-passed bytes s in
-      let a = rw (tiles-of-size bytes e) at (every-all (ranges predicated) r) in
+      let t = every-all (ranges predicated) r in
+      let (e, o) = formed-passed bytes products u0 u1 subtract s (t .0) in
+      let a = rw (tiles-of-size bytes e) at (t .1) in
       record {
         size = e;
+        formed = o;
         tile-below = ltb-true _ _ (a .0);
         pn-below = ltb-true _ _ (a .1 .0);
         pm-below = ltb-true _ _ (a .1 .1 .0);
@@ -109,26 +141,29 @@ module _ (bytes : ℕ) (u0 u1 subtract : Bool) (tile pn pm zn zm : ℕ) where
         zm-below = ltb-true _ _ (a .1 .1 .1 .1 .0);
       }
 
-  pub predicated-answers : PredicatedAnswers bytes u0 u1 subtract tile pn pm zn zm
-  predicated-answers = answers bytes predicated predicated-passes predicated-passed
+  pub predicated-answers : PredicatedAnswers bytes products u0 u1 subtract tile pn pm zn zm
+  predicated-answers = answers bytes products predicated predicated-passes predicated-passed
 
-module _ (bytes : ℕ) (u0 u1 subtract : Bool) (tile first : ℕ) (firstPair : Bool) (second : ℕ) (secondPair : Bool) where
+module _ (bytes products : ℕ) (u0 u1 subtract : Bool) (tile first : ℕ) (firstPair : Bool) (second : ℕ) (secondPair : Bool) where
   abbrev quarter : Instruction
-  quarter = askedQuarter bytes u0 u1 subtract tile first firstPair second secondPair
+  quarter = askedQuarter bytes products u0 u1 subtract tile first firstPair second secondPair
 
-  quarter-passes : QuarterFits bytes tile first second → (size? bytes ≡ true) × (inRange quarter ≡ true)
-  quarter-passes f = (
-    size-passes bytes (f .size),
-    all-every (ranges quarter)
-        (rw (tiles-of-size bytes (f .size), source-register firstPair first, source-register secondPair second) (omega (arith, lt-ltb, le-leb, eq-eqb))),
-  )
+  quarter-passes : QuarterFits bytes products u0 u1 tile first second → (size? bytes products ≡ true) × (inRange quarter ≡ true)
+  quarter-passes f =
+      let (s, o) = formed-passes bytes products u0 u1 subtract (f .size) (f .formed) in (
+        s,
+        all-every (ranges quarter)
+            (o, rw (tiles-of-size bytes (f .size), source-register firstPair first, source-register secondPair second) (omega (arith, lt-ltb, le-leb, eq-eqb))),
+      )
 
-  quarter-passed : size? bytes ≡ true → inRange quarter ≡ true → QuarterFits bytes tile first second
+  quarter-passed : size? bytes products ≡ true → inRange quarter ≡ true → QuarterFits bytes products u0 u1 tile first second
   quarter-passed s r =
-      let e = size-passed bytes s in
-      let a = rw (tiles-of-size bytes e, source-register firstPair first, source-register secondPair second) at (every-all (ranges quarter) r) in
+      let t = every-all (ranges quarter) r in
+      let (e, o) = formed-passed bytes products u0 u1 subtract s (t .0) in
+      let a = rw (tiles-of-size bytes e, source-register firstPair first, source-register secondPair second) at (t .1) in
       record {
         size = e;
+        formed = o;
         tile-below = ltb-true _ _ (a .0);
         first-even = eqb-true _ _ (a .1 .0);
         first-most = leb-true _ _ (a .1 .1 .0);
@@ -137,11 +172,32 @@ module _ (bytes : ℕ) (u0 u1 subtract : Bool) (tile first : ℕ) (firstPair : B
         second-most = leb-true _ _ (a .1 .1 .1 .1 .1 .0);
       }
 
-  pub quarter-answers : QuarterAnswers bytes u0 u1 subtract tile first firstPair second secondPair
-  quarter-answers = answers bytes quarter quarter-passes quarter-passed
+  pub quarter-answers : QuarterAnswers bytes products u0 u1 subtract tile first firstPair second secondPair
+  quarter-answers = answers bytes products quarter quarter-passes quarter-passed
 
 pub zero-answers : (mask : ℕ) → ZeroAnswers mask
 zero-answers mask =
-    answers 4 (Zero mask)
+    answers 4 4 (Zero mask)
     (λ h. (refl, all-every (ranges (Zero mask)) (lt-ltb mask 256 h, tt)))
     (λ s r. ltb-true mask 256 (every-all (ranges (Zero mask)) r .0))
+
+-- ---- describe
+pub describes : (flags w : ℕ) (fields : List ℕ) → Describes flags w fields
+describes flags w fields =
+    let (n, o) = ends flags w fields in
+    record {
+      accepts = (
+        λ e. let (a, b) = accepts o .0 e in let k = known o a .count in (a, omega arith),
+        λ c. let k = known o (c .0) .count in accepts o .1 (c .0, omega arith),
+      );
+      gives-1 = same 1 (omega arith) (omega arith) o;
+      gives-7 = same 7 (omega arith) (omega arith) o;
+      gives-8 = same 8 (omega arith) (omega arith) o;
+      gives-12 = (
+        λ e. let (a, b) = gives-12 o .0 e in let k = known o a .count in (a, omega arith),
+        λ c. let k = known o (c .0) .count in gives-12 o .1 (c .0, omega arith),
+      );
+      refused = λ z. unchanged o z .0;
+      rest = fields-rest o;
+      encoded = λ l e. subst (λ a. Unpacks a w 0) (sym (fields-encoded o l e)) (unpacks w 0 (omega arith));
+    }

@@ -1,5 +1,5 @@
 -- What each exported function answers, as one number: value · 256 + refusal, where there is a value.
-use mathlib.Core.Bool.{Bool, cond, _||_}
+use mathlib.Core.Bool.{Bool, cond, _&&_, _||_}
 use mathlib.Core.List.{List}
 use mathlib.Core.Option.{Option, none, some}
 use Prim.Native.Nat.{ℕ, _+_, _*_}
@@ -28,20 +28,22 @@ packedPrinted a = packed (printedLength a) (printedNumber a)
 abbrev pub printCall : ℕ → ℕ → ℕ → ℕ
 printCall flags w room = packedPrinted (printOf flags w room)
 
--- ---- encode: the description that the arguments ask for; tile elements of other than 4 or 8 bytes ask for none
-abbrev pub sized : ℕ → Instruction → Option Instruction
-sized bytes i = cond (eqb bytes 4 || eqb bytes 8) (some i) none
+-- ---- encode: the description that the arguments ask for; tile elements of other than 4 or 8 bytes, or other than 2 or 4
+-- products, ask for none
+abbrev pub sized : ℕ → ℕ → Instruction → Option Instruction
+sized bytes products i = cond ((eqb bytes 4 || eqb bytes 8) && (eqb products 2 || eqb products 4)) (some i) none
 
-abbrev pub operation : ℕ → Bool → Bool → Bool → Operation
-operation bytes u0 u1 subtract = record { wide = eqb bytes 8; u0 = u0; u1 = u1; subtract = subtract }
+abbrev pub operation : ℕ → ℕ → Bool → Bool → Bool → Operation
+operation bytes products u0 u1 subtract =
+    record { wide = eqb bytes 8; «two_way» = eqb products 2; u0 = u0; u1 = u1; subtract = subtract }
 
-abbrev pub askedPredicated : ℕ → Bool → Bool → Bool → ℕ → ℕ → ℕ → ℕ → ℕ → Instruction
-askedPredicated bytes u0 u1 subtract tile pn pm zn zm =
-    Predicated (operation bytes u0 u1 subtract) (record { 0 = tile }) (record { 0 = pn }) (record { 0 = pm }) (record { 0 = zn }) (record { 0 = zm })
+abbrev pub askedPredicated : ℕ → ℕ → Bool → Bool → Bool → ℕ → ℕ → ℕ → ℕ → ℕ → Instruction
+askedPredicated bytes products u0 u1 subtract tile pn pm zn zm =
+    Predicated (operation bytes products u0 u1 subtract) (record { 0 = tile }) (record { 0 = pn }) (record { 0 = pm }) (record { 0 = zn }) (record { 0 = zm })
 
-abbrev pub askedQuarter : ℕ → Bool → Bool → Bool → ℕ → ℕ → Bool → ℕ → Bool → Instruction
-askedQuarter bytes u0 u1 subtract tile first firstPair second secondPair =
-    Quarter (operation bytes u0 u1 subtract) (record { 0 = tile }) (source firstPair first) (source secondPair second)
+abbrev pub askedQuarter : ℕ → ℕ → Bool → Bool → Bool → ℕ → ℕ → Bool → ℕ → Bool → Instruction
+askedQuarter bytes products u0 u1 subtract tile first firstPair second secondPair =
+    Quarter (operation bytes products u0 u1 subtract) (record { 0 = tile }) (source firstPair first) (source secondPair second)
 
 abbrev pub packedEncoded : Encoded → ℕ
 packedEncoded a = packed (encodedWord a) (encodedNumber a)
@@ -50,13 +52,13 @@ abbrev pub encodeCall : Option Instruction → ℕ
 encodeCall none = packed 0 (number OutOfRange)
 encodeCall (some i) = packedEncoded (encodeOf i)
 
-abbrev pub predicatedCall : ℕ → Bool → Bool → Bool → ℕ → ℕ → ℕ → ℕ → ℕ → ℕ
-predicatedCall bytes u0 u1 subtract tile pn pm zn zm =
-    encodeCall (sized bytes (askedPredicated bytes u0 u1 subtract tile pn pm zn zm))
+abbrev pub predicatedCall : ℕ → ℕ → Bool → Bool → Bool → ℕ → ℕ → ℕ → ℕ → ℕ → ℕ
+predicatedCall bytes products u0 u1 subtract tile pn pm zn zm =
+    encodeCall (sized bytes products (askedPredicated bytes products u0 u1 subtract tile pn pm zn zm))
 
-abbrev pub quarterCall : ℕ → Bool → Bool → Bool → ℕ → ℕ → Bool → ℕ → Bool → ℕ
-quarterCall bytes u0 u1 subtract tile first firstPair second secondPair =
-    encodeCall (sized bytes (askedQuarter bytes u0 u1 subtract tile first firstPair second secondPair))
+abbrev pub quarterCall : ℕ → ℕ → Bool → Bool → Bool → ℕ → ℕ → Bool → ℕ → Bool → ℕ
+quarterCall bytes products u0 u1 subtract tile first firstPair second secondPair =
+    encodeCall (sized bytes products (askedQuarter bytes products u0 u1 subtract tile first firstPair second secondPair))
 
 abbrev pub zeroCall : ℕ → ℕ
 zeroCall mask = encodeCall (some (Zero mask))

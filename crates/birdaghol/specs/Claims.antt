@@ -3,8 +3,9 @@ use mathlib.Core.Path.{_≡_}
 use mathlib.Core.Bool.{Bool}
 use mathlib.Core.Logic.{_↔_, _⊎_}
 use mathlib.Core.List.{List}
-use Prim.Native.Nat.{ℕ, _/_, _%_, _≤_, _<_}
-use lib.ListN.{length}
+use Prim.Native.Nat.{ℕ, _/_, _%_, _^_, _≤_, _<_}
+use lib.ListN.{length, drop}
+use Rattle.isa.specs.Answers.{decodeNumber}
 use Rattle.isa.specs.Claims.{OnlyWord}
 use Rattle.isa.specs.declared.Instruction.{Instruction}
 use Rattle.isa.specs.declared.Instruction.the-variants.{Zero}
@@ -12,6 +13,7 @@ use Rattle.text.specs.Printing.{printNumber, printLength}
 use Rattle.replay.specs.Claims.{runNumber, runCount}
 use Rattle.replay.specs.Machine.{Machine}
 use Rattle.birdaghol.specs.Calls.{printCall, askedPredicated, askedQuarter, predicatedCall, quarterCall, zeroCall, runCall}
+use Rattle.birdaghol.specs.Fields.{fieldCount, describeCall, fieldsAfter, encodeNumbers}
 
 -- the value is the answer divided by 256, the refusal what is left over
 pub record Unpacks (answer value refusal : ℕ) : Type 0 where
@@ -28,16 +30,22 @@ RunUnpacks m ws = Unpacks (runCall m ws) (runCount m ws) (runNumber m ws)
 abbrev pub ElementSize : ℕ → Type 0
 ElementSize bytes = (bytes ≡ 4) ⊎ (bytes ≡ 8)
 
-pub record PredicatedFits (bytes tile pn pm zn zm : ℕ) : Type 0 where
+-- four products of any shape and signs; two on a 32-bit tile, of sources with one sign
+abbrev pub Formed : ℕ → ℕ → Bool → Bool → Type 0
+Formed bytes products u0 u1 = (products ≡ 4) ⊎ ((products ≡ 2) × (bytes ≡ 4) × (u0 ≡ u1))
+
+pub record PredicatedFits (bytes products : ℕ) (u0 u1 : Bool) (tile pn pm zn zm : ℕ) : Type 0 where
   pub size : ElementSize bytes
+  pub formed : Formed bytes products u0 u1
   pub tile-below : tile < bytes
   pub pn-below : pn < 8
   pub pm-below : pm < 8
   pub zn-below : zn < 32
   pub zm-below : zm < 32
 
-pub record QuarterFits (bytes tile first second : ℕ) : Type 0 where
+pub record QuarterFits (bytes products : ℕ) (u0 u1 : Bool) (tile first second : ℕ) : Type 0 where
   pub size : ElementSize bytes
+  pub formed : Formed bytes products u0 u1
   pub tile-below : tile < bytes
   pub first-even : first % 2 ≡ 0
   pub first-most : first ≤ 14
@@ -50,16 +58,27 @@ pub record EncodeAnswers (answer : ℕ) (i : Instruction) (Fits : Type 0) : Type
   pub word : Fits → (w : ℕ) × Unpacks answer w 0 × OnlyWord i w
   pub gives-11 : (answer ≡ 11) ↔ (Fits → ⊥)
 
-abbrev pub PredicatedAnswers : ℕ → Bool → Bool → Bool → ℕ → ℕ → ℕ → ℕ → ℕ → Type 0
-PredicatedAnswers bytes u0 u1 subtract tile pn pm zn zm =
-    EncodeAnswers (predicatedCall bytes u0 u1 subtract tile pn pm zn zm)
-    (askedPredicated bytes u0 u1 subtract tile pn pm zn zm) (PredicatedFits bytes tile pn pm zn zm)
+abbrev pub PredicatedAnswers : ℕ → ℕ → Bool → Bool → Bool → ℕ → ℕ → ℕ → ℕ → ℕ → Type 0
+PredicatedAnswers bytes products u0 u1 subtract tile pn pm zn zm =
+    EncodeAnswers (predicatedCall bytes products u0 u1 subtract tile pn pm zn zm)
+    (askedPredicated bytes products u0 u1 subtract tile pn pm zn zm) (PredicatedFits bytes products u0 u1 tile pn pm zn zm)
 
-abbrev pub QuarterAnswers : ℕ → Bool → Bool → Bool → ℕ → ℕ → Bool → ℕ → Bool → Type 0
-QuarterAnswers bytes u0 u1 subtract tile first firstPair second secondPair =
-    EncodeAnswers (quarterCall bytes u0 u1 subtract tile first firstPair second secondPair)
-    (askedQuarter bytes u0 u1 subtract tile first firstPair second secondPair) (QuarterFits bytes tile first second)
+abbrev pub QuarterAnswers : ℕ → ℕ → Bool → Bool → Bool → ℕ → ℕ → Bool → ℕ → Bool → Type 0
+QuarterAnswers bytes products u0 u1 subtract tile first firstPair second secondPair =
+    EncodeAnswers (quarterCall bytes products u0 u1 subtract tile first firstPair second secondPair)
+    (askedQuarter bytes products u0 u1 subtract tile first firstPair second secondPair) (QuarterFits bytes products u0 u1 tile first second)
 
 -- every byte is a good mask
 abbrev pub ZeroAnswers : ℕ → Type 0
 ZeroAnswers mask = EncodeAnswers (zeroCall mask) (Zero mask) (mask < 256)
+
+-- ---- describe: which number, what stands in the fields, and that encode takes them back
+pub record Describes (flags w : ℕ) (fields : List ℕ) : Type 0 where
+  pub accepts : (describeCall flags w (length fields) ≡ 0) ↔ (decodeNumber flags w ≡ 0) × (fieldCount ≤ length fields)
+  pub gives-1 : (describeCall flags w (length fields) ≡ 1) ↔ (decodeNumber flags w ≡ 1)
+  pub gives-7 : (describeCall flags w (length fields) ≡ 7) ↔ (decodeNumber flags w ≡ 7)
+  pub gives-8 : (describeCall flags w (length fields) ≡ 8) ↔ (decodeNumber flags w ≡ 8)
+  pub gives-12 : (describeCall flags w (length fields) ≡ 12) ↔ (decodeNumber flags w ≡ 0) × (length fields < fieldCount)
+  pub refused : (describeCall flags w (length fields) ≡ 0 → ⊥) → fieldsAfter flags w fields ≡ fields
+  pub rest : drop fieldCount (fieldsAfter flags w fields) ≡ drop fieldCount fields
+  pub encoded : w < 2 ^ 32 → describeCall flags w (length fields) ≡ 0 → Unpacks (encodeNumbers (fieldsAfter flags w fields)) w 0

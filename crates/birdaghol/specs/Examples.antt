@@ -1,13 +1,14 @@
 -- Calls and their answers, as rows of one table: which argument is which, and what stands beside a refusal.
 -- proofs/Examples.antt shows that each comes out so.
 use mathlib.Core.Bool.{Bool, true, false}
-use mathlib.Core.List.{List, [], _∷_}
+use mathlib.Core.List.{List, [], _∷_, _++_}
 use Prim.Native.Nat.{ℕ, _+_, _*_}
 use lib.ListN.{replicate}
 use Rattle.isa.specs.Answers.{decodeNumber}
 use Rattle.replay.specs.Machine.{on}
 use Rattle.replay.specs.Claims.{executeNumber}
 use Rattle.birdaghol.specs.Calls.{printCall, predicatedCall, quarterCall, zeroCall, benchOf, runCall}
+use Rattle.birdaghol.specs.Fields.{describeCall, fieldsAfter}
 
 pub record Example : Type 0 where
   pub call : ℕ
@@ -27,19 +28,32 @@ abbrev pub examples : List Example
 examples =
     record { call = decodeNumber 6 0xA1C0001F; gives = 0 }
     ∷ record { call = decodeNumber 4 0xA1C0001F; gives = 8 }
+    -- flags, word, places
+    ∷ record { call = describeCall 8 0xA18595D9 11; gives = 0 }
+    ∷ record { call = describeCall 8 0xA18595D9 10; gives = 12 }
+    ∷ record { call = describeCall 7 0xA18595D9 10; gives = 8 }
+    ∷ record { call = describeCall 16 0xA18595D9 10; gives = 1 }
+    ∷ record { call = describeCall 15 0x81000010 11; gives = 7 }
     ∷ record { call = printCall 7 0x811E8352 64; gives = 47 * 256 }
     ∷ record { call = printCall 7 0xC00800FF 62; gives = 12 }
-    ∷ record { call = printCall 8 0xC00800FF 64; gives = 1 }
-    -- element bytes, signs, subtract, tile, Pn, Pm, Zn, Zm
-    ∷ record { call = predicatedCall 4 false true true 3 2 5 3 17; gives = 0xA0B1A873 * 256 }
-    ∷ record { call = predicatedCall 8 true false false 0 7 3 6 12; gives = 0xA1CC7CC0 * 256 }
-    ∷ record { call = predicatedCall 4 false false false 4 0 0 0 0; gives = 11 }
-    ∷ record { call = predicatedCall 16 false false false 0 0 0 0 0; gives = 11 }
-    -- element bytes, signs, subtract, tile, first source, pair, second source, pair
-    ∷ record { call = quarterCall 4 true false true 2 10 true 30 true; gives = 0x811E8352 * 256 }
-    ∷ record { call = quarterCall 8 false true true 4 12 false 18 true; gives = 0xA0F2019C * 256 }
-    ∷ record { call = quarterCall 4 false false false 0 1 false 16 false; gives = 11 }
-    ∷ record { call = quarterCall 0 false false false 0 0 false 16 false; gives = 11 }
+    ∷ record { call = printCall 16 0xC00800FF 64; gives = 1 }
+    -- element bytes, products, signs, subtract, tile, Pn, Pm, Zn, Zm
+    ∷ record { call = predicatedCall 4 4 false true true 3 2 5 3 17; gives = 0xA0B1A873 * 256 }
+    ∷ record { call = predicatedCall 8 4 true false false 0 7 3 6 12; gives = 0xA1CC7CC0 * 256 }
+    ∷ record { call = predicatedCall 4 4 false false false 4 0 0 0 0; gives = 11 }
+    ∷ record { call = predicatedCall 4 2 true true true 1 5 4 14 5; gives = 0xA18595D9 * 256 }
+    ∷ record { call = predicatedCall 4 2 false true false 0 0 0 0 0; gives = 11 }
+    ∷ record { call = predicatedCall 8 2 false false false 0 0 0 0 0; gives = 11 }
+    ∷ record { call = predicatedCall 4 3 false false false 0 0 0 0 0; gives = 11 }
+    ∷ record { call = predicatedCall 2 4 false false false 0 0 0 0 0; gives = 11 }
+    ∷ record { call = predicatedCall 16 4 false false false 0 0 0 0 0; gives = 11 }
+    -- element bytes, products, signs, subtract, tile, first source, pair, second source, pair
+    ∷ record { call = quarterCall 4 4 true false true 2 10 true 30 true; gives = 0x811E8352 * 256 }
+    ∷ record { call = quarterCall 8 4 false true true 4 12 false 18 true; gives = 0xA0F2019C * 256 }
+    ∷ record { call = quarterCall 4 2 false false true 3 14 true 16 false; gives = 0x800083DB * 256 }
+    ∷ record { call = quarterCall 4 2 true false false 0 0 false 16 false; gives = 11 }
+    ∷ record { call = quarterCall 4 4 false false false 0 1 false 16 false; gives = 11 }
+    ∷ record { call = quarterCall 0 4 false false false 0 0 false 16 false; gives = 11 }
     ∷ record { call = zeroCall 0x11; gives = 0xC0080011 * 256 }
     -- flags, streaming mode, ZA, vector length; the words are SMOPA and ZERO
     ∷ record { call = executed 7 true true 16 0xA0800000; gives = 0 }
@@ -54,3 +68,29 @@ examples =
     ∷ record { call = ran false true 32 (0xC00800FF ∷ 0xA0800000 ∷ []); gives = 256 + 9 }
     ∷ record { call = ran true true 31 []; gives = 4 }
     ∷ []
+
+-- ---- words and the numbers that describe them, with every feature on; a twelfth place stays
+pub record Description : Type 0 where
+  pub word : ℕ
+  pub numbers : List ℕ
+
+abbrev pub descriptions : List Description
+descriptions =
+    -- sumops za3.s, p2/m, p5/m, z3.b, z17.b
+    record { word = 0xA0B1A873; numbers = 1 ∷ 4 ∷ 4 ∷ 0 ∷ 1 ∷ 1 ∷ 3 ∷ 2 ∷ 5 ∷ 3 ∷ 17 ∷ [] }
+    -- umops za1.s, p5/m, p4/m, z14.h, z5.h
+    ∷ record { word = 0xA18595D9; numbers = 1 ∷ 4 ∷ 2 ∷ 1 ∷ 1 ∷ 1 ∷ 1 ∷ 5 ∷ 4 ∷ 14 ∷ 5 ∷ [] }
+    -- sumop4s za4.d, z12.h, { z18.h-z19.h }
+    ∷ record { word = 0xA0F2019C; numbers = 2 ∷ 8 ∷ 4 ∷ 0 ∷ 1 ∷ 1 ∷ 4 ∷ 12 ∷ 0 ∷ 18 ∷ 1 ∷ [] }
+    -- smop4s za3.s, { z14.h-z15.h }, z16.h
+    ∷ record { word = 0x800083DB; numbers = 2 ∷ 4 ∷ 2 ∷ 0 ∷ 0 ∷ 1 ∷ 3 ∷ 14 ∷ 1 ∷ 16 ∷ 0 ∷ [] }
+    -- zero { za0.d, za4.d }
+    ∷ record { word = 0xC0080011; numbers = 3 ∷ 17 ∷ 0 ∷ 0 ∷ 0 ∷ 0 ∷ 0 ∷ 0 ∷ 0 ∷ 0 ∷ 0 ∷ [] }
+    ∷ []
+
+-- a description with what stands in twelve places in place of what should
+abbrev pub described : Description → List ℕ
+described d = fieldsAfter 15 (d .word) (replicate 12 99)
+
+abbrev pub expected : Description → List ℕ
+expected d = d .numbers ++ (99 ∷ [])

@@ -1,3 +1,4 @@
 pub mod Calls
+pub mod Fields
 pub mod Claims
 pub mod Examples

@@ -1,7 +1,12 @@
 // The functions that C and Rust programs call. An answer with a value is value * 256 + refusal.
 ghost use mathlib.Core.Path.{_≡_};
 ghost use mathlib.Core.Option.{some};
-ghost use lib.ListN.{length};
+ghost use mathlib.Core.Bool.{cond};
+ghost use mathlib.Core.List.{[], _∷_, _++_};
+ghost use Prim.Native.Nat.{_≤_};
+ghost use lib.Dec.{ltb};
+ghost use lib.ListN.{length, drop};
+ghost use Rattle.isa.specs.Refusals.{number};
 ghost use Rattle.isa.specs.Answers.{decodeNumber};
 ghost use Rattle.text.specs.Printing.{roomAfter};
 ghost use Rattle.replay.specs.Machine.{on};
@@ -9,6 +14,7 @@ ghost use Rattle.replay.specs.Execution.{after, outcomeNumber};
 ghost use Rattle.replay.specs.Lists.{runLeft};
 ghost use Rattle.replay.specs.Claims.{executeNumber};
 ghost use Rattle.birdaghol.specs.Calls.{printCall, sized, operation, predicatedCall, quarterCall, zeroCall, encodeCall, benchOf, runCall};
+ghost use Rattle.birdaghol.specs.Fields.{operationNumbers, numbersOf, fieldCount, describeCall, fieldsAfter};
 use isa::Decoded;
 use isa::Encoded;
 use isa::Instruction;
@@ -24,13 +30,32 @@ use text::Printed;
 // A refusal takes the low byte of an answer, and the value stands above it.
 const ABOVE_REFUSAL: u64 = 256;
 
+// How many numbers a description is, and the first of them, its kind.
+const FIELDS: usize = 11;
+
+const PREDICATED: u32 = 1;
+
+const QUARTER: u32 = 2;
+
+const ZERO: u32 = 3;
+
 // 0 where the word is an instruction with these features, else the refusal.
 #[no_mangle]
 pub extern "C" fn birdaghol_decode(flags: u32, word: u32) -> u32
     ensures { λ r. ⌜ r ≡ decodeNumber flags word ⌝ }
 {
+    isa::decode_number(flags, word)
+}
+
+// Puts the description of a word at the start of fields: its kind, then the arguments of that kind's encode in their order.
+// 0, or the refusal, which leaves fields as they were; 12 where they have fewer places.
+#[no_mangle]
+pub extern "C" fn birdaghol_describe(flags: u32, word: u32, fields: &mut [u32]) -> u32
+    ensures { λ r. ⌜ r ≡ describeCall flags word (length (now (fields .entry))) ⌝ }
+    ensures { λ _. ⌜ now (fields .exit) ≡ fieldsAfter flags word (now (fields .entry)) ⌝ }
+{
     match isa::decode(flags, word) {
-        Decoded::Accepted(_) => 0,
+        Decoded::Accepted(i) => hand_out(i, fields),
         Decoded::Refused(r) => isa::number(r),
     }
 }
@@ -51,6 +76,7 @@ pub extern "C" fn birdaghol_print(flags: u32, word: u32, room: &mut [u8]) -> u64
 #[no_mangle]
 pub extern "C" fn birdaghol_encode_predicated(
     element_bytes: u32,
+    products: u32,
     first_unsigned: bool,
     second_unsigned: bool,
     subtract: bool,
@@ -60,9 +86,15 @@ pub extern "C" fn birdaghol_encode_predicated(
     zn: u32,
     zm: u32,
 ) -> u64
-    ensures { λ r. ⌜ r ≡ predicatedCall «element_bytes» «first_unsigned» «second_unsigned» subtract tile pn pm zn zm ⌝ }
+    ensures { λ r. ⌜ r ≡ predicatedCall «element_bytes» products «first_unsigned» «second_unsigned» subtract tile pn pm zn zm ⌝ }
 {
-    let op = operation_of(element_bytes, first_unsigned, second_unsigned, subtract);
+    let op = operation_of(
+        element_bytes,
+        products,
+        first_unsigned,
+        second_unsigned,
+        subtract,
+    );
     let i = Instruction::Predicated {
         op,
         tile: Tile(tile),
@@ -71,13 +103,14 @@ pub extern "C" fn birdaghol_encode_predicated(
         zn: Vector(zn),
         zm: Vector(zm),
     };
-    encode_sized(element_bytes, i)
+    encode_sized(element_bytes, products, i)
 }
 
 // The word of a quarter-tile outer product; a pair is given by its first register. The value is the word.
 #[no_mangle]
 pub extern "C" fn birdaghol_encode_quarter(
     element_bytes: u32,
+    products: u32,
     first_unsigned: bool,
     second_unsigned: bool,
     subtract: bool,
@@ -87,16 +120,22 @@ pub extern "C" fn birdaghol_encode_quarter(
     second: u32,
     second_pair: bool,
 ) -> u64
-    ensures { λ r. ⌜ r ≡ quarterCall «element_bytes» «first_unsigned» «second_unsigned» subtract tile first «first_pair» second «second_pair» ⌝ }
+    ensures { λ r. ⌜ r ≡ quarterCall «element_bytes» products «first_unsigned» «second_unsigned» subtract tile first «first_pair» second «second_pair» ⌝ }
 {
-    let op = operation_of(element_bytes, first_unsigned, second_unsigned, subtract);
+    let op = operation_of(
+        element_bytes,
+        products,
+        first_unsigned,
+        second_unsigned,
+        subtract,
+    );
     let i = Instruction::Quarter {
         op,
         tile: Tile(tile),
         first: isa::source_of(first_pair, first),
         second: isa::source_of(second_pair, second),
     };
-    encode_sized(element_bytes, i)
+    encode_sized(element_bytes, products, i)
 }
 
 // The word of a ZERO. The value is the word.
@@ -149,14 +188,16 @@ pub extern "C" fn birdaghol_run(
 
 fn operation_of(
     element_bytes: u32,
+    products: u32,
     first_unsigned: bool,
     second_unsigned: bool,
     subtract: bool,
 ) -> Operation
-    ensures { λ r. ⌜ r ≡ operation «element_bytes» «first_unsigned» «second_unsigned» subtract ⌝ }
+    ensures { λ r. ⌜ r ≡ operation «element_bytes» products «first_unsigned» «second_unsigned» subtract ⌝ }
 {
     Operation {
         wide: element_bytes == 8,
+        two_way: products == 2,
         u0: first_unsigned,
         u1: second_unsigned,
         subtract,
@@ -184,11 +225,12 @@ fn refusal_of(o: Outcome) -> u32
     }
 }
 
-// The word of a description whose tile has elements of so many bytes; only 4 and 8 are in range.
-fn encode_sized(element_bytes: u32, i: Instruction) -> u64
-    ensures { λ r. ⌜ r ≡ encodeCall (sized «element_bytes» i) ⌝ }
+// The word of a description whose tile has elements of so many bytes, to each of which come so many products; only 4 and 8
+// bytes and 2 and 4 products are in range.
+fn encode_sized(element_bytes: u32, products: u32, i: Instruction) -> u64
+    ensures { λ r. ⌜ r ≡ encodeCall (sized «element_bytes» products i) ⌝ }
 {
-    if (element_bytes == 4) | (element_bytes == 8) {
+    if ((element_bytes == 4) | (element_bytes == 8)) & ((products == 2) | (products == 4)) {
         return encode(i);
     }
     isa::number(Refusal::OutOfRange) as u64
@@ -201,5 +243,87 @@ fn encode(i: Instruction) -> u64
     match isa::encode(i) {
         Encoded::Word(w) => w as u64 * ABOVE_REFUSAL,
         Encoded::Refused(r) => isa::number(r) as u64,
+    }
+}
+
+// The numbers of a description, if there is place for them.
+fn hand_out(i: Instruction, fields: &mut [u32]) -> u32
+    ensures { λ r. ⌜ r ≡ cond (ltb (length (now (fields .entry))) fieldCount) (number Refusal.Room) 0 ⌝ }
+    ensures { λ _. ⌜ now (fields .exit) ≡ cond (ltb (length (now (fields .entry))) fieldCount) (now (fields .entry)) (numbersOf i ++ drop fieldCount (now (fields .entry))) ⌝ }
+{
+    if fields.len() < FIELDS {
+        return isa::number(Refusal::Room);
+    }
+    let numbers = numbers_of(i);
+    copy(&numbers, fields);
+    0
+}
+
+fn numbers_of(i: Instruction) -> [u32; FIELDS]
+    ensures { λ r. ⌜ r ≡ numbersOf i ⌝ }
+{
+    match i {
+        Instruction::Predicated {
+            op,
+            tile,
+            pn,
+            pm,
+            zn,
+            zm,
+        } => outer_numbers(PREDICATED, op, tile, pn.0, pm.0, zn.0, zm.0),
+        Instruction::Quarter {
+            op,
+            tile,
+            first,
+            second,
+        } => outer_numbers(
+            QUARTER,
+            op,
+            tile,
+            isa::register_of(first),
+            isa::is_pair(first) as u32,
+            isa::register_of(second),
+            isa::is_pair(second) as u32,
+        ),
+        Instruction::Zero(mask) => [ZERO, mask as u32, 0, 0, 0, 0, 0, 0, 0, 0, 0],
+    }
+}
+
+// Those of an outer product: its kind, its operation, its tile and its sources.
+fn outer_numbers(
+    kind: u32,
+    op: Operation,
+    tile: Tile,
+    a: u32,
+    b: u32,
+    c: u32,
+    d: u32,
+) -> [u32; FIELDS]
+    ensures { λ r. ⌜ r ≡ kind ∷ (operationNumbers op ++ (tile .0 ∷ a ∷ b ∷ c ∷ d ∷ [])) ⌝ }
+{
+    [
+        kind,
+        isa::element_bytes(op),
+        isa::products(op),
+        op.u0 as u32,
+        op.u1 as u32,
+        op.subtract as u32,
+        tile.0,
+        a,
+        b,
+        c,
+        d,
+    ]
+}
+
+// The numbers to the start of fields.
+fn copy(numbers: &[u32], fields: &mut [u32])
+    requires { ⌜ length (now numbers) ≤ length (now fields) ⌝ }
+    ensures { λ _. ⌜ now (fields .exit) ≡ now (numbers .entry) ++ drop (length (now (numbers .entry))) (now (fields .entry)) ⌝ }
+{
+    let mut i = 0;
+    while i < numbers.len() {
+        fields[i] = numbers[i];
+        i += 1;
     }
 }

@@ -1,6 +1,7 @@
 // Calls each exported function and writes its answers, value first and refusal second, and what it left in a buffer:
 // which argument is which, and that the boundary's numbers are as document 01 has them.
 use birdaghol::birdaghol_decode;
+use birdaghol::birdaghol_describe;
 use birdaghol::birdaghol_encode_predicated;
 use birdaghol::birdaghol_encode_quarter;
 use birdaghol::birdaghol_encode_zero;
@@ -15,8 +16,12 @@ const ZERO_ALL: u32 = 0xC008_00FF;
 
 const UNLISTED: u32 = 0x8100_0010;
 
+// umops za1.s, p5/m, p4/m, z14.h, z5.h
+const UMOPS_TWO_WAY: u32 = 0xA185_95D9;
+
 fn main() {
     decodes();
+    describes();
     prints();
     encodes();
     let z = [0xFFu8; 512];
@@ -31,6 +36,43 @@ fn decodes() {
     number(b"decode, unlisted", birdaghol_decode(7, UNLISTED));
 }
 
+// Each kind, then the order of the refusals; a twelfth number stays.
+fn describes() {
+    described(b"sumops", 7, 0xA0B1_A873);
+    described(b"umops, 2-way", 8, UMOPS_TWO_WAY);
+    described(b"sumop4s, wide, one and a pair", 6, 0xA0F2_019C);
+    described(b"smop4s, 2-way, a pair and one", 4, 0x8000_83DB);
+    described(b"zero", 1, 0xC008_0011);
+    described(b"a feature off", 7, UMOPS_TWO_WAY);
+    described(b"unlisted", 15, UNLISTED);
+    described(b"flags", 16, UMOPS_TWO_WAY);
+    let mut short = [99u32; 10];
+    number(
+        b"describe, ten places",
+        birdaghol_describe(15, UMOPS_TWO_WAY, &mut short),
+    );
+    numbers(&short);
+}
+
+fn described(name: &[u8], flags: u32, word: u32) {
+    let mut fields = [99u32; 12];
+    io::write_all(STDOUT_FILENO, b"describe, ");
+    number(name, birdaghol_describe(flags, word, &mut fields));
+    numbers(&fields);
+}
+
+fn numbers(fields: &[u32]) {
+    for i in 0..fields.len() {
+        after_space(fields[i]);
+    }
+    io::write_all(STDOUT_FILENO, b"\n");
+}
+
+fn after_space(n: u32) {
+    io::write_all(STDOUT_FILENO, b" ");
+    io::print_decimal(STDOUT_FILENO, n as u64);
+}
+
 // The text has 47 bytes: the room's last byte stays a line feed.
 fn prints() {
     let mut room = [b'\n'; 48];
@@ -43,27 +85,47 @@ fn prints() {
 fn encodes() {
     answer(
         b"sumops",
-        birdaghol_encode_predicated(4, false, true, true, 3, 2, 5, 3, 17),
+        birdaghol_encode_predicated(4, 4, false, true, true, 3, 2, 5, 3, 17),
     );
     answer(
         b"usmopa, wide",
-        birdaghol_encode_predicated(8, true, false, false, 0, 7, 3, 6, 12),
+        birdaghol_encode_predicated(8, 4, true, false, false, 0, 7, 3, 6, 12),
+    );
+    answer(
+        b"umops, 2-way",
+        birdaghol_encode_predicated(4, 2, true, true, true, 1, 5, 4, 14, 5),
+    );
+    answer(
+        b"2-way, two signs",
+        birdaghol_encode_predicated(4, 2, true, false, true, 1, 5, 4, 14, 5),
+    );
+    answer(
+        b"2-way, wide",
+        birdaghol_encode_predicated(8, 2, true, true, true, 1, 5, 4, 14, 5),
+    );
+    answer(
+        b"three products",
+        birdaghol_encode_predicated(4, 3, true, true, true, 1, 5, 4, 14, 5),
     );
     answer(
         b"elements of 16 bytes",
-        birdaghol_encode_predicated(16, false, true, true, 3, 2, 5, 3, 17),
+        birdaghol_encode_predicated(16, 4, false, true, true, 3, 2, 5, 3, 17),
     );
     answer(
         b"usmop4s, pairs",
-        birdaghol_encode_quarter(4, true, false, true, 2, 10, true, 30, true),
+        birdaghol_encode_quarter(4, 4, true, false, true, 2, 10, true, 30, true),
     );
     answer(
         b"sumop4s, wide, one and a pair",
-        birdaghol_encode_quarter(8, false, true, true, 4, 12, false, 18, true),
+        birdaghol_encode_quarter(8, 4, false, true, true, 4, 12, false, 18, true),
+    );
+    answer(
+        b"smop4s, 2-way, a pair and one",
+        birdaghol_encode_quarter(4, 2, false, false, true, 3, 14, true, 16, false),
     );
     answer(
         b"an odd source",
-        birdaghol_encode_quarter(4, true, false, true, 2, 11, true, 30, true),
+        birdaghol_encode_quarter(4, 4, true, false, true, 2, 11, true, 30, true),
     );
     answer(b"zero", birdaghol_encode_zero(0x11));
 }
@@ -77,7 +139,7 @@ fn executes(z: &[u8], p: &[u8]) {
     bytes(&za);
     number(
         b"flags",
-        birdaghol_execute(8, true, true, 16, z, p, &mut za, ZERO_ALL),
+        birdaghol_execute(16, true, true, 16, z, p, &mut za, ZERO_ALL),
     );
     number(
         b"a length of 15",
@@ -148,6 +210,5 @@ fn four(a: u8, b: u8, c: u8, d: u8) {
 }
 
 fn byte(b: u8) {
-    io::write_all(STDOUT_FILENO, b" ");
-    io::print_decimal(STDOUT_FILENO, b as u64);
+    after_space(b as u32);
 }

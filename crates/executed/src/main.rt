@@ -10,7 +10,7 @@ use libc::STDIN_FILENO;
 use libc::STDOUT_FILENO;
 use replay::Bench;
 
-const ALL_FEATURES: u32 = 7;
+const ALL_FEATURES: u32 = 15;
 
 const LONGEST_VB: u32 = 256;
 

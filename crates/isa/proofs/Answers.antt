@@ -1,20 +1,21 @@
 -- What decode and encode answer, by what is found in the table: the laws that a caller uses. Assumes nothing.
-use mathlib.Core.Path.{_≡_, refl, ap}
+use mathlib.Core.Path.{_≡_, _∙_, sym, refl, ap}
 use mathlib.Core.Bool.{Bool, true, false, not, cond}
 use mathlib.Core.List.{List, [], _∷_, List·Memᴰ, List·Memᴰ·head, List·Memᴰ·tail}
 use mathlib.Core.Option.{Option, none, some}
 use Prim.Native.Nat.{ℕ, _+_, _≤_, _<_}
 use native.Mathlib.Omega.{arith}
 use lib.Dec.{eqb, ltb}
-use borrow.Author.Tests.{lt-ltb, le-ltb}
+use borrow.Author.Tests.{lt-ltb, le-ltb, eq-eqb, ne-eqb}
 use Rattle.isa.specs.Row.{matches}
 use Rattle.isa.specs.Refusals.{firstFailure}
-use Rattle.isa.specs.Table.{Feature, flag, SME, I16I64, MOP4, on, lacking, allFlags, Entry, table, described, inRange, wordFor}
-use Rattle.isa.specs.Answers.{lookup, describe, missing, decodeTests, decided, allowed, decodeOf, encodeOf}
+use Rattle.isa.specs.Table.{Feature, flag, SME, I16I64, MOP4, SME2, on, lacking, allFlags, Entry, table, described, inRange, wordFor}
+use Rattle.isa.specs.Answers.{lookup, describedBy, neededBy, describe, missing, decodeTests, decided, decodeOf, encodeOf}
 use Rattle.isa.specs.Claims.{AllOn}
 use Rattle.isa.specs.declared.Instruction.{Instruction}
 use Rattle.isa.specs.declared.Refusal.{Refusal}
 use Rattle.isa.specs.declared.Refusal.the-variants.{Flags, Unlisted, FeatureOff, OutOfRange}
+use Rattle.isa.specs.declared.Decoded.{Decoded}
 use Rattle.isa.specs.declared.Decoded.the-variants.{Accepted, Refused as NotDecoded}
 use Rattle.isa.specs.declared.Encoded.the-variants.{Word, Refused as NotEncoded}
 use Rattle.isa.proofs.Lookup.{lookup-found}
@@ -24,6 +25,7 @@ flag-pos : (f : Feature) → 0 < flag f
 flag-pos SME = omega arith
 flag-pos I16I64 = omega arith
 flag-pos MOP4 = omega arith
+flag-pos SME2 = omega arith
 
 pub lacking-none : (flags : ℕ) (fs : List Feature) → lacking flags fs ≡ 0 → AllOn flags fs
 lacking-none flags (f ∷ fs) p g m = go (on flags f) refl p g m (lacking-none flags fs)
@@ -48,6 +50,10 @@ pub decode-unlisted : (flags w : ℕ) → flags ≤ allFlags → lookup table w 
 unfolding decodeOf describe
 decode-unlisted flags w h p = rw (le-ltb allFlags flags h, p)
 
+-- what test 8 leaves of a word that passed 1 and 7
+abbrev pub allowed : ℕ → Instruction → Decoded
+allowed lacks i = cond (eqb lacks 0) (Accepted i) (NotDecoded FeatureOff)
+
 pub decode-listed : (flags w : ℕ) (e : Entry) → flags ≤ allFlags → lookup table w ≡ some e
     → decodeOf flags w ≡ allowed (lacking flags (e .needs)) (described e w)
 unfolding decodeOf describe missing
@@ -56,6 +62,22 @@ decode-listed flags w e h p = rw (le-ltb allFlags flags h, p) (go (eqb (lacking 
     go : (b : Bool) → decided (cond (not b) (some FeatureOff) none) (some (described e w)) ≡ cond b (Accepted (described e w)) (NotDecoded FeatureOff)
     go true = refl
     go false = refl
+
+-- the same for a line that was found and what it lacks, nothing where there is none
+module _ (flags w : ℕ) {o : Option Entry} {k : ℕ} (h : flags ≤ allFlags) (p : o ≡ lookup table w) (q : k ≡ lacking flags (neededBy o)) where
+  pub decode-lacking : (k ≡ 0 → ⊥) → decodeOf flags w ≡ NotDecoded FeatureOff
+  decode-lacking d = go o (sym p) (λ e. d (q ∙ e))
+    where
+      go : (o : Option Entry) → lookup table w ≡ o → (lacking flags (neededBy o) ≡ 0 → ⊥) → decodeOf flags w ≡ NotDecoded FeatureOff
+      go none p d = absurd (d refl)
+      go (some e) p d = decode-listed flags w e h p ∙ rw (ne-eqb _ 0 d)
+
+  pub decode-open : k ≡ 0 → decodeOf flags w ≡ decided none (describedBy o w)
+  decode-open e = go o (sym p) (sym q ∙ e)
+    where
+      go : (o : Option Entry) → lookup table w ≡ o → lacking flags (neededBy o) ≡ 0 → decodeOf flags w ≡ decided none (describedBy o w)
+      go none p z = decode-unlisted flags w h p
+      go (some e) p z = decode-listed flags w e h p ∙ rw (eq-eqb _ 0 z)
 
 -- ---- an answer that was decided by tests and a description
 pub decided-accepted : (o : Option Refusal) (d : Option Instruction) (i : Instruction) → decided o d ≡ Accepted i → (o ≡ none) × (d ≡ some i)

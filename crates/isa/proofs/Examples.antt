@@ -2,7 +2,7 @@
 use mathlib.Core.Path.{_≡_, refl}
 use Rattle.isa.specs.Table.{table}
 use Rattle.isa.specs.Answers.{describe, missing, decodeOf}
-use Rattle.isa.specs.Examples.{examples, allReplayed, acceptingFlags, allAccepting, wordsOf}
+use Rattle.isa.specs.Examples.{examples, allReplayed, acceptingFlags, allAccepting}
 
 pub examples-hold : allReplayed examples ≡ examples
 unfolding decodeOf describe missing
@@ -15,7 +15,3 @@ features-hold = refl
 pub missing-example : missing 0 0xA1C0001F ≡ 6
 unfolding missing
 missing-example = refl
-
--- as many words as the paper counts
-pub table-count : wordsOf table ≡ 6316288
-table-count = refl

@@ -5,4 +5,5 @@ pub mod Lines
 pub mod Lookup
 pub mod Answers
 pub mod Theorems
+pub mod Counts
 pub mod Examples

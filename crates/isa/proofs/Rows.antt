@@ -3,7 +3,7 @@
 use mathlib.Core.Path.{_≡_, _∙_, sym, ap, ap₂, refl, subst, fun-ext}
 use mathlib.Core.Bool.{Bool, true, false, not, cond, _&&_, _||_}
 use mathlib.Core.Logic.{_⊎_, inl, inr, ⊎-elim}
-use mathlib.Core.List.{List, [], _∷_}
+use mathlib.Core.List.{List, [], _∷_, _++_}
 use mathlib.Core.Option.{Option, none, some}
 use Prim.Native.Nat.{ℕ, zero, suc, _+_, _-_, _*_, _/_, _%_, _^_, _<_}
 use native.Mathlib.Nat.{mod-mod, mod-one, mod-lt, mod-eq-of-lt}
@@ -18,19 +18,27 @@ use Rattle.isa.proofs.Tests.{All, every-all, all-every}
 
 -- ---- what is asked of a row and of values for its fields
 
+-- something holds of each field, by its name and its width
+abbrev pub Over : (Name → ℕ → Type 0) → Row → Type 0
+Over P [] = Unit {0}
+Over P (fixed k v ∷ r) = Over P r
+Over P (field n k ∷ r) = P n k × Over P r
+
 -- each value is within its field's width
+abbrev pub Within : Fields → Name → ℕ → Type 0
+Within f n k = f n < 2 ^ k
+
 abbrev pub Fit : Row → Fields → Type 0
-Fit [] f = Unit {0}
-Fit (fixed k v ∷ r) f = Fit r f
-Fit (field n k ∷ r) f = (f n < 2 ^ k) × Fit r f
+Fit r f = Over (Within f) r
 
 -- f and g give each field of the row the same value
-abbrev pub Agree : Row → Fields → Fields → Type 0
-Agree [] f g = Unit {0}
-Agree (fixed k v ∷ r) f g = Agree r f g
-Agree (field n k ∷ r) f g = (f n ≡ g n) × Agree r f g
+abbrev pub Alike : Fields → Fields → Name → ℕ → Type 0
+Alike f g n k = f n ≡ g n
 
-abbrev fresh : Name → Row → List Bool
+abbrev pub Agree : Row → Fields → Fields → Type 0
+Agree r f g = Over (Alike f g) r
+
+abbrev pub fresh : Name → Row → List Bool
 fresh n [] = []
 fresh n (fixed k v ∷ r) = fresh n r
 fresh n (field m k ∷ r) = not (same n m) ∷ fresh n r
@@ -73,21 +81,34 @@ agree-except m x r f g d = go r (every-all (fresh m r) d)
     go (fixed k v ∷ r) d a = go r d a
     go (field n k ∷ r) d a = (rw (not-true (same m n) (d .0)) (a .0), go r (d .1) (a .1))
 
+-- so do values that differ for it alone
+pub agree-but : (m : Name) (f g : Fields) → ((n : Name) → same m n ≡ false → f n ≡ g n) → (r : Row) → All (fresh m r) → Agree r f g
+agree-but m f g h [] d = tt
+agree-but m f g h (fixed k v ∷ r) d = agree-but m f g h r d
+agree-but m f g h (field n k ∷ r) d = (h n (not-true (same m n) (d .0)), agree-but m f g h r (d .1))
+
 -- fixed bits ask nothing of values
 abbrev pub unfixed : Row → Row
 unfixed [] = []
 unfixed (fixed k v ∷ r) = unfixed r
 unfixed (field n k ∷ r) = field n k ∷ unfixed r
 
-pub fit-unfixed : (r : Row) (f : Fields) → Fit (unfixed r) f ≡ Fit r f
-fit-unfixed [] f = refl
-fit-unfixed (fixed k v ∷ r) f = fit-unfixed r f
-fit-unfixed (field n k ∷ r) f = ap (λ (T : Type 0). (f n < 2 ^ k) × T) (fit-unfixed r f)
+module _ (P : Name → ℕ → Type 0) where
+  pub over-unfixed : (r : Row) → Over P (unfixed r) ≡ Over P r
+  over-unfixed [] = refl
+  over-unfixed (fixed k v ∷ r) = over-unfixed r
+  over-unfixed (field n k ∷ r) = ap (λ (T : Type 0). P n k × T) (over-unfixed r)
 
-pub agree-unfixed : (r : Row) (f g : Fields) → Agree (unfixed r) f g ≡ Agree r f g
-agree-unfixed [] f g = refl
-agree-unfixed (fixed k v ∷ r) f g = agree-unfixed r f g
-agree-unfixed (field n k ∷ r) f g = ap (λ (T : Type 0). (f n ≡ g n) × T) (agree-unfixed r f g)
+  -- rows one after the other
+  pub over-split : (r q : Row) → Over P (r ++ q) → Over P r × Over P q
+  over-split [] q t = (tt, t)
+  over-split (fixed k v ∷ r) q t = over-split r q t
+  over-split (field n k ∷ r) q t = let (a, b) = over-split r q (t .1) in ((t .0, a), b)
+
+  pub over-join : (r q : Row) → Over P r → Over P q → Over P (r ++ q)
+  over-join [] q a b = b
+  over-join (fixed k v ∷ r) q a b = over-join r q a b
+  over-join (field n k ∷ r) q a b = (a .0, over-join r q (a .1) b)
 
 same-refl : (n : Name) → same n n ≡ true
 same-refl n = eq-eqb (index n) (index n) refl
@@ -118,8 +139,22 @@ tests-mod (field n k ∷ r) w = above r (tests r) (tests-mod r) k w
 fields-below : (r : Row) (h : ℕ) {lo : ℕ} → lo < 2 ^ size r → fieldOf r (h * 2 ^ size r + lo) ≡ fieldOf r lo
 fields-below r = below r (fieldOf r) (fields-mod r)
 
+pub matches-below : (r : Row) (h : ℕ) {lo : ℕ} → lo < 2 ^ size r → matches r (h * 2 ^ size r + lo) ≡ matches r lo
+matches-below r h q = ap every (below r (tests r) (tests-mod r) h q)
+
 tests-below : (r : Row) (h : ℕ) {lo : ℕ} → lo < 2 ^ size r → All (tests r lo) → All (tests r (h * 2 ^ size r + lo))
 tests-below r h q t = subst All (sym (below r (tests r) (tests-mod r) h q)) t
+
+-- ---- the word of rows one after the other
+size-++ : (r q : Row) → size (r ++ q) ≡ size r + size q
+size-++ [] q = omega arith
+size-++ (fixed k v ∷ r) q = omega (arith, size-++ r q)
+size-++ (field n k ∷ r) q = omega (arith, size-++ r q)
+
+pub word-++ : (r q : Row) (f : Fields) → wordOf (r ++ q) f ≡ wordOf r f * 2 ^ size q + wordOf q f
+word-++ [] q f = omega arith
+word-++ (fixed k v ∷ r) q f = rw (size-++ r q, pow-add 2 (size r) (size q), word-++ r q f) (omega arith)
+word-++ (field n k ∷ r) q f = rw (size-++ r q, pow-add 2 (size r) (size q), word-++ r q f) (omega arith)
 
 -- ---- the word of fields that fit
 pub word-lt : (r : Row) (f : Fields) → Sound r → Fit r f → wordOf r f < 2 ^ size r
@@ -128,7 +163,7 @@ word-lt (fixed k v ∷ r) f s t = rw (pow-add 2 k (size r)) (digits-lt (ltb-true
 word-lt (field n k ∷ r) f s t = rw (pow-add 2 k (size r)) (digits-lt (t .0) (word-lt r f (s .1) (t .1)))
 
 -- the top segment of a word
-top : (h s k : ℕ) {lo : ℕ} → h < 2 ^ k → lo < 2 ^ s → bits s k (h * 2 ^ s + lo) ≡ h
+pub top : (h s k : ℕ) {lo : ℕ} → h < 2 ^ k → lo < 2 ^ s → bits s k (h * 2 ^ s + lo) ≡ h
 top h s k p q = rw (high h s q) (mod-eq-of-lt p)
 
 pub fields-back : (r : Row) (f : Fields) → Sound r → Fit r f → Agree r (fieldOf r (wordOf r f)) f
@@ -176,7 +211,7 @@ word-is r w s h m = word-back r w s (every-all (tests r w) m) ∙ mod-eq-of-lt h
 -- ---- two rows that differ in a fixed bit
 
 -- bit b of the words that match a row, where the row fixes it
-abbrev fixedBit : Row → ℕ → Option ℕ
+abbrev pub fixedBit : Row → ℕ → Option ℕ
 fixedBit [] b = none
 fixedBit (fixed k v ∷ r) b = cond (leb (size r) b && ltb b (k + size r)) (some (v / 2 ^ (b - size r) % 2)) (fixedBit r b)
 fixedBit (field n k ∷ r) b = fixedBit r b
@@ -219,7 +254,7 @@ pattern-bit s k v w b e h =
     ap (λ (n : ℕ). w / 2 ^ n % 2) i ∙ ap (λ (n : ℕ). n % 2) (sym (shr-shr w s (b - s)))
     ∙ sym (low-bit (w / 2 ^ s) k (b - s) j) ∙ ap (λ (n : ℕ). n / 2 ^ (b - s) % 2) e
 
-fixed-bit : (r : Row) (w b x : ℕ) → All (tests r w) → fixedBit r b ≡ some x → w / 2 ^ b % 2 ≡ x
+pub fixed-bit : (r : Row) (w b x : ℕ) → All (tests r w) → fixedBit r b ≡ some x → w / 2 ^ b % 2 ≡ x
 fixed-bit [] w b x t e = let z : _≡_ {A = ℕ} 0 1 = cc in absurd (omega arith)
 fixed-bit (field n k ∷ r) w b x t e = fixed-bit r w b x t e
 fixed-bit (fixed k v ∷ r) w b x t e = go (leb (size r) b && ltb b (k + size r)) refl e (fixed-bit r w b x (t .1))

@@ -65,10 +65,6 @@ abbrev pub decodedNumber : Decoded → ℕ
 decodedNumber (Accepted i) = 0
 decodedNumber (NotDecoded r) = number r
 
--- what test 8 leaves of a word that passed 1 and 7: `decode-listed` of proofs/Answers.antt ties it to decodeOf
-abbrev pub allowed : ℕ → Instruction → Decoded
-allowed lacks i = cond (eqb lacks 0) (Accepted i) (NotDecoded FeatureOff)
-
 unfoldable pub decodeOf : ℕ → ℕ → Decoded
 decodeOf flags w = decided (firstFailure (decodeTests flags w)) (describe w)
 

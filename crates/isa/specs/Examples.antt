@@ -1,15 +1,17 @@
--- Words and what they are, and what the table allows, as rows of tables; proofs/Examples.antt shows that each comes out
--- as it says. The paper's marked examples are in crates/bench/specs/Examples.antt. Here are words of an independent
+-- Words and what they are, and which flags each line takes, as rows of tables; proofs/Examples.antt shows that each comes
+-- out as it says. The paper's marked examples are in crates/bench/specs/Examples.antt. Here are words of an independent
 -- disassembler: three for each row of the table that has two fields or more, in which every two of its fields differ
--- somewhere, both signs stand alone and mixed, and both values of S, N and M occur; each with the least flags that allow it.
+-- somewhere, both signs stand alone and, where the row allows it, mixed, and both values of S, N and M occur; each with the
+-- least flags that allow it.
 use mathlib.Core.Bool.{Bool, true, false, cond}
 use mathlib.Core.List.{List, [], _∷_}
 use mathlib.Core.Option.{Option, none, some}
-use Prim.Native.Nat.{ℕ, zero, suc, _+_, _-_, _^_}
+use Prim.Native.Nat.{ℕ, zero, suc, _-_}
 use lib.Dec.{eqb}
-use Rattle.isa.specs.Row.{fixed, field, Row}
-use Rattle.isa.specs.Table.{allFlags, lacking, Entry}
+use Rattle.isa.specs.Table.{allFlags, isWide, isTwoWay, lacking, Entry}
 use Rattle.isa.specs.Answers.{decodeOf, decodedNumber}
+use Rattle.isa.specs.declared.Shape.{Shape}
+use Rattle.isa.specs.declared.Shape.the-variants.{Bytes32, Halves64, Halves32}
 use Rattle.isa.specs.declared.Operation.{Operation}
 use Rattle.isa.specs.declared.Source.{Source}
 use Rattle.isa.specs.declared.Source.the-variants.{One, Pair}
@@ -26,12 +28,16 @@ pub record Example : Type 0 where
   pub number : ℕ
   pub is : Option Instruction
 
--- operations by the letters of their mnemonics, as `umop s adds` for UMOPA or UMOP4A on a 32-bit tile
-abbrev pub s : Bool
-s = false
+-- operations by the letters of their mnemonics and the suffixes of tile and sources, as `umop sb adds` for UMOPA or UMOP4A
+-- of bytes on a 32-bit tile
+abbrev pub sb : Shape
+sb = Bytes32
 
-abbrev pub d : Bool
-d = true
+abbrev pub dh : Shape
+dh = Halves64
+
+abbrev pub sh : Shape
+sh = Halves32
 
 abbrev pub adds : Bool
 adds = false
@@ -39,14 +45,17 @@ adds = false
 abbrev pub subtracts : Bool
 subtracts = true
 
-abbrev pub smop : Bool → Bool → Operation
-smop wide subtract = record { wide = wide; u0 = false; u1 = false; subtract = subtract }
+abbrev pub mop : Bool → Bool → Shape → Bool → Operation
+mop u0 u1 shape subtract = record { wide = isWide shape; «two_way» = isTwoWay shape; u0 = u0; u1 = u1; subtract = subtract }
 
-abbrev pub sumop : Bool → Bool → Operation
-sumop wide subtract = record { wide = wide; u0 = false; u1 = true; subtract = subtract }
+abbrev pub smop : Shape → Bool → Operation
+smop = mop false false
 
-abbrev pub umop : Bool → Bool → Operation
-umop wide subtract = record { wide = wide; u0 = true; u1 = true; subtract = subtract }
+abbrev pub sumop : Shape → Bool → Operation
+sumop = mop false true
+
+abbrev pub umop : Shape → Bool → Operation
+umop = mop true true
 
 -- an instruction by its operands, in the order of its text
 abbrev pub aPredicated : Operation → ℕ → ℕ → ℕ → ℕ → ℕ → Option Instruction
@@ -65,33 +74,49 @@ zz n = Pair (record { 0 = n })
 abbrev pub examples : List Example
 examples =
     -- smops za3.s, p5/m, p4/m, z13.b, z7.b
-    record { flags = 1; word = 0xA08795B3; number = 0; is = aPredicated (smop s subtracts) 3 5 4 13 7 }
+    record { flags = 1; word = 0xA08795B3; number = 0; is = aPredicated (smop sb subtracts) 3 5 4 13 7 }
     -- umopa za2.s, p7/m, p3/m, z24.b, z19.b
-    ∷ record { flags = 1; word = 0xA1B37F02; number = 0; is = aPredicated (umop s adds) 2 7 3 24 19 }
+    ∷ record { flags = 1; word = 0xA1B37F02; number = 0; is = aPredicated (umop sb adds) 2 7 3 24 19 }
     -- sumopa za3.s, p5/m, p6/m, z28.b, z25.b
-    ∷ record { flags = 1; word = 0xA0B9D783; number = 0; is = aPredicated (sumop s adds) 3 5 6 28 25 }
+    ∷ record { flags = 1; word = 0xA0B9D783; number = 0; is = aPredicated (sumop sb adds) 3 5 6 28 25 }
     -- smops za2.d, p6/m, p3/m, z24.h, z22.h
-    ∷ record { flags = 2; word = 0xA0D67B12; number = 0; is = aPredicated (smop d subtracts) 2 6 3 24 22 }
+    ∷ record { flags = 2; word = 0xA0D67B12; number = 0; is = aPredicated (smop dh subtracts) 2 6 3 24 22 }
     -- umopa za7.d, p4/m, p6/m, z23.h, z26.h
-    ∷ record { flags = 2; word = 0xA1FAD2E7; number = 0; is = aPredicated (umop d adds) 7 4 6 23 26 }
+    ∷ record { flags = 2; word = 0xA1FAD2E7; number = 0; is = aPredicated (umop dh adds) 7 4 6 23 26 }
     -- sumopa za3.d, p7/m, p4/m, z14.h, z11.h
-    ∷ record { flags = 2; word = 0xA0EB9DC3; number = 0; is = aPredicated (sumop d adds) 3 7 4 14 11 }
+    ∷ record { flags = 2; word = 0xA0EB9DC3; number = 0; is = aPredicated (sumop dh adds) 3 7 4 14 11 }
     -- smop4s za3.s, { z12.b-z13.b }, z30.b
-    ∷ record { flags = 4; word = 0x800E8393; number = 0; is = aQuarter (smop s subtracts) 3 (zz 12) (z 30) }
+    ∷ record { flags = 4; word = 0x800E8393; number = 0; is = aQuarter (smop sb subtracts) 3 (zz 12) (z 30) }
     -- umop4a za3.s, { z14.b-z15.b }, z26.b
-    ∷ record { flags = 4; word = 0x812A83C3; number = 0; is = aQuarter (umop s adds) 3 (zz 14) (z 26) }
+    ∷ record { flags = 4; word = 0x812A83C3; number = 0; is = aQuarter (umop sb adds) 3 (zz 14) (z 26) }
     -- sumop4s za2.s, z12.b, { z26.b-z27.b }
-    ∷ record { flags = 4; word = 0x803A8192; number = 0; is = aQuarter (sumop s subtracts) 2 (z 12) (zz 26) }
+    ∷ record { flags = 4; word = 0x803A8192; number = 0; is = aQuarter (sumop sb subtracts) 2 (z 12) (zz 26) }
     -- smop4s za4.d, { z4.h-z5.h }, { z30.h-z31.h }
-    ∷ record { flags = 6; word = 0xA0DE029C; number = 0; is = aQuarter (smop d subtracts) 4 (zz 4) (zz 30) }
+    ∷ record { flags = 6; word = 0xA0DE029C; number = 0; is = aQuarter (smop dh subtracts) 4 (zz 4) (zz 30) }
     -- umop4s za7.d, z8.h, z22.h
-    ∷ record { flags = 6; word = 0xA1E6011F; number = 0; is = aQuarter (umop d subtracts) 7 (z 8) (z 22) }
+    ∷ record { flags = 6; word = 0xA1E6011F; number = 0; is = aQuarter (umop dh subtracts) 7 (z 8) (z 22) }
     -- sumop4a za6.d, { z6.h-z7.h }, z20.h
-    ∷ record { flags = 6; word = 0xA0E402CE; number = 0; is = aQuarter (sumop d adds) 6 (zz 6) (z 20) }
+    ∷ record { flags = 6; word = 0xA0E402CE; number = 0; is = aQuarter (sumop dh adds) 6 (zz 6) (z 20) }
     -- zero { za0.d, za1.d, za2.d, za5.d, za7.d }
     ∷ record { flags = 1; word = 0xC00800A7; number = 0; is = some (Zero 0b10100111) }
-    -- flags above 7 hide even a listed word
-    ∷ record { flags = 8; word = 0xA0B9D783; number = 1; is = none }
+    -- umopa za2.s, p7/m, p0/m, z31.h, z1.h
+    ∷ record { flags = 8; word = 0xA1811FEA; number = 0; is = aPredicated (umop sh adds) 2 7 0 31 1 }
+    -- smopa za2.s, p0/m, p4/m, z25.h, z26.h
+    ∷ record { flags = 8; word = 0xA09A832A; number = 0; is = aPredicated (smop sh adds) 2 0 4 25 26 }
+    -- umops za1.s, p5/m, p4/m, z14.h, z5.h
+    ∷ record { flags = 8; word = 0xA18595D9; number = 0; is = aPredicated (umop sh subtracts) 1 5 4 14 5 }
+    -- smop4s za3.s, { z14.h-z15.h }, z16.h
+    ∷ record { flags = 4; word = 0x800083DB; number = 0; is = aQuarter (smop sh subtracts) 3 (zz 14) (z 16) }
+    -- smop4s za1.s, z0.h, { z18.h-z19.h }
+    ∷ record { flags = 4; word = 0x80128019; number = 0; is = aQuarter (smop sh subtracts) 1 (z 0) (zz 18) }
+    -- umop4a za0.s, z6.h, z22.h
+    ∷ record { flags = 4; word = 0x810680C8; number = 0; is = aQuarter (umop sh adds) 0 (z 6) (z 22) }
+    -- no 2-way word has sources of different signs, and no flag stands for SME2
+    ∷ record { flags = 15; word = 0xA0A00008; number = 7; is = none }
+    ∷ record { flags = 15; word = 0x80208008; number = 7; is = none }
+    ∷ record { flags = 7; word = 0xA0800008; number = 8; is = none }
+    -- flags above 15 hide even a listed word
+    ∷ record { flags = 16; word = 0xA0B9D783; number = 1; is = none }
     ∷ []
 
 abbrev pub accepted : Decoded → Option Instruction
@@ -109,31 +134,23 @@ allReplayed [] = []
 allReplayed (e ∷ es) = replayed e ∷ allReplayed es
 
 -- ---- features
--- the flags, of 0 to 7, with which each line of the table is accepted
+-- the flags, of 0 to 15, with which each line of the table is accepted
 abbrev pub acceptingFlags : List (List ℕ)
 acceptingFlags =
-    (1 ∷ 3 ∷ 5 ∷ 7 ∷ [])
-    ∷ (2 ∷ 3 ∷ 6 ∷ 7 ∷ [])
-    ∷ (4 ∷ 5 ∷ 6 ∷ 7 ∷ [])
-    ∷ (6 ∷ 7 ∷ [])
-    ∷ (1 ∷ 3 ∷ 5 ∷ 7 ∷ [])
+    (1 ∷ 3 ∷ 5 ∷ 7 ∷ 9 ∷ 11 ∷ 13 ∷ 15 ∷ [])
+    ∷ (2 ∷ 3 ∷ 6 ∷ 7 ∷ 10 ∷ 11 ∷ 14 ∷ 15 ∷ [])
+    ∷ (4 ∷ 5 ∷ 6 ∷ 7 ∷ 12 ∷ 13 ∷ 14 ∷ 15 ∷ [])
+    ∷ (6 ∷ 7 ∷ 14 ∷ 15 ∷ [])
+    ∷ (1 ∷ 3 ∷ 5 ∷ 7 ∷ 9 ∷ 11 ∷ 13 ∷ 15 ∷ [])
+    ∷ (8 ∷ 9 ∷ 10 ∷ 11 ∷ 12 ∷ 13 ∷ 14 ∷ 15 ∷ [])
+    ∷ (4 ∷ 5 ∷ 6 ∷ 7 ∷ 12 ∷ 13 ∷ 14 ∷ 15 ∷ [])
     ∷ []
 
--- the last k of the flags 0 to 7, of these those with which a line lacks nothing
+-- the last k of the flags 0 to 15, of these those with which a line lacks nothing
 abbrev pub accepting : ℕ → Entry → List ℕ
 accepting zero e = []
 accepting (suc k) e = let flags = allFlags - k in cond (eqb (lacking flags (e .needs)) 0) (flags ∷ accepting k e) (accepting k e)
 
 abbrev pub allAccepting : List Entry → List (List ℕ)
 allAccepting [] = []
-allAccepting (e ∷ es) = accepting 8 e ∷ allAccepting es
-
--- ---- how many words the widths of the fields allow; the program `sweep` counts the words themselves
-abbrev pub freeBits : Row → ℕ
-freeBits [] = 0
-freeBits (fixed k v ∷ r) = freeBits r
-freeBits (field n k ∷ r) = k + freeBits r
-
-abbrev pub wordsOf : List Entry → ℕ
-wordsOf [] = 0
-wordsOf (e ∷ es) = 2 ^ freeBits (e .row) + wordsOf es
+allAccepting (e ∷ es) = accepting 16 e ∷ allAccepting es

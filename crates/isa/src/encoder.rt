@@ -1,8 +1,8 @@
 // The word of a description: its fields at their places in the row.
 ghost use mathlib.Core.Path.{_≡_};
-ghost use mathlib.Core.Bool.{true};
+ghost use mathlib.Core.Bool.{true, not, cond, _&&_};
 ghost use Prim.Native.Nat.{_+_, _-_, _*_, _/_, _<_, _≤_};
-ghost use Rattle.isa.specs.Table.{bit, isPair, register, inRange, wordFor};
+ghost use Rattle.isa.specs.Table.{bit, isPair, register, isFormed, inRange, wordFor};
 ghost use Rattle.isa.specs.Answers.{encodeOf, encodedNumber, encodedWord, encodeNumber, encodeWord};
 use crate::Encoded;
 use crate::Instruction;
@@ -24,6 +24,10 @@ const QUARTER32: u32 = 0x8000_8000;
 const QUARTER64: u32 = 0xa0c0_0008;
 
 const ZERO: u32 = 0xc008_0000;
+
+const PREDICATED_TWO_WAY: u32 = 0xa080_0008;
+
+const QUARTER_TWO_WAY: u32 = 0x8000_8008;
 
 // The place of each field: what 1 in it adds to the word. Zn and Zm stand elsewhere in a quarter's row.
 const AT_U0: u32 = 0x0100_0000;
@@ -112,12 +116,7 @@ fn predicated_word(
     ensures { λ r. ⌜ r ≡ wordFor (Instruction.Predicated op tile pn pm zn zm) ⌝ }
 {
     let fields = operation_bits(op, tile) + predicated_bits(pn, pm, zn, zm);
-    let wide = op.wide;
-    if wide {
-        PREDICATED64 + fields
-    } else {
-        PREDICATED32 + fields
-    }
+    by_shape(op, PREDICATED32, PREDICATED64, PREDICATED_TWO_WAY) + fields
 }
 
 fn quarter_word(op: Operation, tile: Tile, first: Source, second: Source) -> u32
@@ -125,19 +124,28 @@ fn quarter_word(op: Operation, tile: Tile, first: Source, second: Source) -> u32
     ensures { λ r. ⌜ r ≡ wordFor (Instruction.Quarter op tile first second) ⌝ }
 {
     let fields = operation_bits(op, tile) + quarter_bits(first, second);
-    let wide = op.wide;
-    if wide {
-        QUARTER64 + fields
-    } else {
-        QUARTER32 + fields
-    }
+    by_shape(op, QUARTER32, QUARTER64, QUARTER_TWO_WAY) + fields
 }
 
+// One of three numbers, by the operation's shape.
+fn by_shape(op: Operation, bytes32: u32, halves64: u32, halves32: u32) -> u32
+    ensures { λ r. ⌜ r ≡ cond (op .«two_way») halves32 (cond (op .wide) halves64 bytes32) ⌝ }
+{
+    let two_way = op.two_way;
+    if two_way {
+        return halves32;
+    }
+    let wide = op.wide;
+    if wide { halves64 } else { bytes32 }
+}
+
+// A 2-way row has no u1.
 fn operation_bits(op: Operation, tile: Tile) -> u32
     requires { ⌜ tile .0 < 8 ⌝ }
-    ensures { λ r. ⌜ r ≡ bit (op .u0) * 0x1000000 + bit (op .u1) * 0x200000 + bit (op .subtract) * 0x10 + tile .0 ⌝ }
+    ensures { λ r. ⌜ r ≡ bit (op .u0) * 0x1000000 + bit (op .u1 && not (op .«two_way»)) * 0x200000 + bit (op .subtract) * 0x10 + tile .0 ⌝ }
 {
-    (op.u0 as u32) * AT_U0 + (op.u1 as u32) * AT_U1 + (op.subtract as u32) * AT_S + tile.0
+    let u1 = op.u1 & !op.two_way;
+    (op.u0 as u32) * AT_U0 + (u1 as u32) * AT_U1 + (op.subtract as u32) * AT_S + tile.0
 }
 
 fn predicated_bits(pn: Predicate, pm: Predicate, zn: Vector, zm: Vector) -> u32
@@ -169,7 +177,12 @@ fn predicated_in_range(
 ) -> bool
     ensures { λ r. ⌜ r ≡ inRange (Instruction.Predicated op tile pn pm zn zm) ⌝ }
 {
-    (tile.0 < element_bytes(op)) & (pn.0 < 8) & (pm.0 < 8) & (zn.0 < 32) & (zm.0 < 32)
+    is_formed(op)
+        & (tile.0 < element_bytes(op))
+        & (pn.0 < 8)
+        & (pm.0 < 8)
+        & (zn.0 < 32)
+        & (zm.0 < 32)
 }
 
 fn quarter_in_range(op: Operation, tile: Tile, first: Source, second: Source) -> bool
@@ -177,10 +190,28 @@ fn quarter_in_range(op: Operation, tile: Tile, first: Source, second: Source) ->
 {
     let n = register_of(first);
     let m = register_of(second);
-    (tile.0 < element_bytes(op)) & (n % 2 == 0) & (n <= 14) & (m % 2 == 0) & (16 <= m) & (m <= 30)
+    is_formed(op)
+        & (tile.0 < element_bytes(op))
+        & (n % 2 == 0)
+        & (n <= 14)
+        & (m % 2 == 0)
+        & (16 <= m)
+        & (m <= 30)
 }
 
-fn is_pair(s: Source) -> bool
+// Two products come to 32-bit elements alone, from sources of one sign.
+fn is_formed(op: Operation) -> bool
+    ensures { λ r. ⌜ r ≡ isFormed op ⌝ }
+{
+    let two_way = op.two_way;
+    if two_way {
+        !op.wide & (op.u0 as u32 == op.u1 as u32)
+    } else {
+        true
+    }
+}
+
+pub fn is_pair(s: Source) -> bool
     ensures { λ r. ⌜ r ≡ isPair s ⌝ }
 {
     match s {
@@ -189,7 +220,7 @@ fn is_pair(s: Source) -> bool
     }
 }
 
-fn register_of(s: Source) -> u32
+pub fn register_of(s: Source) -> u32
     ensures { λ r. ⌜ r ≡ register s ⌝ }
 {
     match s {

@@ -5,9 +5,12 @@ mod numbers;
 mod sizes;
 
 pub use decoder::decode;
+pub use decoder::decode_number;
 pub use decoder::flags_legal;
 pub use decoder::source_of;
 pub use encoder::encode;
+pub use encoder::is_pair;
+pub use encoder::register_of;
 pub use numbers::number;
 pub use sizes::element_bytes;
 pub use sizes::products;
@@ -26,10 +29,11 @@ pub enum Source {
     Pair(Vector),
 }
 
-// What an outer product does: on a 64-bit tile (wide) or a 32-bit one, with its first (u0) and
-// its second (u1) source read as unsigned, added or subtracted.
+// What an outer product does: on a 64-bit tile (wide) or a 32-bit one, by two products an element (two_way) or four, with
+// its first (u0) and its second (u1) source read as unsigned, added or subtracted.
 pub struct Operation {
     pub wide: bool,
+    pub two_way: bool,
     pub u0: bool,
     pub u1: bool,
     pub subtract: bool,
@@ -52,6 +56,25 @@ pub enum Instruction {
         second: Source,
     },
     Zero(u8),
+}
+
+// The shapes of the table's outer products: bytes or halfwords on a 32-bit tile, halfwords on a 64-bit one.
+pub enum Shape {
+    Bytes32,
+    Halves64,
+    Halves32,
+}
+
+// A line of the table, or none.
+pub enum Line {
+    Predicated32,
+    Predicated64,
+    Quarter32,
+    Quarter64,
+    Zero,
+    PredicatedTwoWay,
+    QuarterTwoWay,
+    Unlisted,
 }
 
 // Why input is refused, in the order of the tests; `number` gives each its number.

@@ -15,7 +15,8 @@ pub fn element_bytes(op: Operation) -> u32
 pub fn products(op: Operation) -> u32
     ensures { λ r. ⌜ r ≡ productsOf op ⌝ }
 {
-    4
+    let two_way = op.two_way;
+    if two_way { 2 } else { 4 }
 }
 
 // Bytes of a source element.

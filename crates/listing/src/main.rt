@@ -1,16 +1,16 @@
-// Prints every word that document 01 lists, of all five families, and writes how many lines and bytes that made, and the
-// sum of all bytes. What it must write comes from tools/listing, which makes the texts from document 01's table and text
-// rules alone; LLVM 22 disassembles each of the 6,316,288 words to the same text.
+// Prints every listed word, of every line of the table, and writes how many lines and bytes that made, and the sum of all
+// bytes. What it must write comes from tools/listing, which makes the texts from document 01's table, C-14's two lines and
+// the rules of text alone; LLVM 22 disassembles each of the 7,368,960 words to the same text.
 ghost use Prim.Native.Nat.{_+_, _≤_};
 use checks::part;
 use checks::plus;
 use libc::STDOUT_FILENO;
 use text::Printed;
 
-const ALL_FEATURES: u32 = 7;
+const ALL_FEATURES: u32 = 15;
 
-// Where the listed words stand: a first word, and how many to try from it on. The quarter-tile words of 32 bits; the other
-// outer products; ZERO.
+// Where the listed words stand: a first word, and how many to try from it on. The quarter-tile words on 32-bit tiles; the
+// other outer products; ZERO.
 const QUARTER32: u32 = 0x8000_0000;
 
 const QUARTER32_WORDS: u32 = 0x140_0000;

@@ -12,7 +12,7 @@ use borrow.Author.Tests.{ltb-true, ltb-false}
 use Rattle.storage.specs.Bytes.{at}
 use Rattle.storage.proofs.Bytes.{word-lt}
 use Rattle.outer.specs.declared.OuterProduct.{OuterProduct}
-use Rattle.outer.specs.Products.{interpret, registerAt, sourceElement, firstElement, secondElement, counts, product, sum, Between}
+use Rattle.outer.specs.Products.{interpret, registerAt, sourceElement, firstElement, secondElement, counts, product, sum, Shaped, bytes32, halves64, halves32, least, most, Between}
 
 -- -low ≤ z ≤ high, by z's sign; negsuc n is -(n + 1)
 abbrev Within : ℕ → ℕ → ℤ → Type 0
@@ -79,16 +79,16 @@ low-high zero s = absurd (not-suc-le-zero s)
 low-high (suc B) s = omega arith
 
 module _ (E K vb : ℕ) (s : 0 < E / K) (o : OuterProduct) (z p : List ℕ) (row col : ℕ) (bytes : (i : ℕ) → at z i < 256) where
-  abbrev pub least : ℕ
-  least = lowest (E / K)
+  abbrev low : ℕ
+  low = lowest (E / K)
 
-  abbrev pub most : ℕ
-  most = highest (E / K)
+  abbrev high : ℕ
+  high = highest (E / K)
 
-  within-source : (u : Bool) (register e : ℕ) → Within least most (interpret (E / K) u (sourceElement (E / K) vb z register e))
+  within-source : (u : Bool) (register e : ℕ) → Within low high (interpret (E / K) u (sourceElement (E / K) vb z register e))
   within-source u register e = within-element (E / K) s u _ (word-lt (E / K) (register * vb + e * (E / K)) (at z) bytes)
 
-  within-product : (k : ℕ) → Within (least * most) (most * most) (product E K vb o z p row col k)
+  within-product : (k : ℕ) → Within (low * high) (high * high) (product E K vb o z p row col k)
   unfolding product
   within-product k = go (counts E K vb o z p row col k)
     where
@@ -98,21 +98,20 @@ module _ (E K vb : ℕ) (s : 0 < E / K) (o : OuterProduct) (z p : List ℕ) (row
       y : ℤ
       y = secondElement E K vb o z p row col k
 
-      go : (t : Bool) → Within (least * most) (most * most) (cond t (x *ℤ y) (pos 0))
+      go : (t : Bool) → Within (low * high) (high * high) (cond t (x *ℤ y) (pos 0))
       go true =
-          within-mul least most (low-high (E / K) s) x y
+          within-mul low high (low-high (E / K) s) x y
           (within-source (o .first .unsigned) (registerAt (o .first) (vb / E) col) (K * row + k))
           (within-source (o .second .unsigned) (registerAt (o .second) (vb / E) row) (K * col + k))
       go false = zero-le
 
   -- K products of elements of E / K bytes
-  pub products-between : Between (negℤ (pos (K * (least * most)))) (pos (K * (most * most))) (sum (product E K vb o z p row col) K)
+  pub products-between : Between (negℤ (pos (K * (low * high)))) (pos (K * (high * high))) (sum (product E K vb o z p row col) K)
   products-between = within-between _ _ _ (within-sum _ _ (product E K vb o z p row col) within-product K)
 
--- the paper's figures: 4 products of bytes, and of halfwords
-module _ (vb : ℕ) (o : OuterProduct) (z p : List ℕ) (row col : ℕ) (bytes : (i : ℕ) → at z i < 256) where
-  pub four-products-32 : Between (negℤ (pos 130560)) (pos 260100) (sum (product 4 4 vb o z p row col) 4)
-  four-products-32 = products-between 4 4 vb (lit< tt) o z p row col bytes
-
-  pub four-products-64 : Between (negℤ (pos 8589803520)) (pos 17179344900) (sum (product 8 4 vb o z p row col) 4)
-  four-products-64 = products-between 8 4 vb (lit< tt) o z p row col bytes
+-- in each shape, between its figures
+pub products-in-bounds : {E K : ℕ} (sh : Shaped E K) (vb : ℕ) (o : OuterProduct) (z p : List ℕ) (row col : ℕ) → ((i : ℕ) → at z i < 256)
+    → Between (least sh) (most sh) (sum (product E K vb o z p row col) K)
+products-in-bounds bytes32 vb = products-between 4 4 vb (lit< tt)
+products-in-bounds halves64 vb = products-between 8 4 vb (lit< tt)
+products-in-bounds halves32 vb = products-between 4 2 vb (lit< tt)

@@ -5,7 +5,7 @@ use mathlib.Core.Bool.{Bool, true, false, cond}
 use mathlib.Core.List.{List}
 use Prim.Native.Nat.{ℕ, suc, _+_, _-_, _*_, _/_, _^_, _≤_, _<_}
 use native.Mathlib.Omega.{arith}
-use native.Mathlib.Nat.{le-refl, mul-le-mul-left, mul-le-mul-right, le-div-iff-mul-le}
+use native.Mathlib.Nat.{le-refl, div-self, mul-le-mul-left, mul-le-mul-right, le-div-iff-mul-le}
 use lib.Dec.{lit<, lit≤, ltb}
 use lib.IntN.{ℤ}
 use native.Mathlib.Decide.{ℕ-discrete, decLt}
@@ -15,7 +15,7 @@ use Rattle.storage.specs.Sizes.{legal}
 use Rattle.storage.proofs.Sizes.{Length, legal-length}
 use Rattle.outer.specs.declared.Operand.{Operand}
 use Rattle.outer.specs.declared.OuterProduct.{OuterProduct}
-use Rattle.outer.specs.Products.{registerAt, Shaped, bytes32, halves64, GoodOperand, Ready}
+use Rattle.outer.specs.Products.{registerAt, Shaped, bytes32, halves64, halves32, GoodOperand, Ready}
 use Rattle.outer.specs.Walks.{FourOrEight, four, eight, ByteOrHalf, byte, half, Sources, sameUntil, SameUntil}
 use Rattle.outer.proofs.Progress.{Tiled}
 
@@ -50,34 +50,40 @@ pub record Shape (E K : ℕ) : Type 0 where
 pub shape : {E K : ℕ} → Shaped E K → Shape E K
 shape bytes32 = record { element = four; source = byte; whole = refl; some = lit< tt; few = lit≤ tt }
 shape halves64 = record { element = eight; source = half; whole = refl; some = lit< tt; few = lit≤ tt }
+shape halves32 = record { element = four; source = half; whole = refl; some = lit< tt; few = lit≤ tt }
 
--- whether there are as many products as bytes tells them apart
-pub are-bytes : {E K : ℕ} → Shaped E K → E ≡ K → (E ≡ 4) × (K ≡ 4)
-are-bytes bytes32 e = (refl, refl)
-are-bytes halves64 e = absurd (let q : 8 ≡ 4 = e in omega arith)
+-- whether there are as many products as bytes tells the source elements apart
+pub are-bytes : {E K : ℕ} → Shaped E K → E ≡ K → E / K ≡ 1
+are-bytes sh e = rw e (div-self (shape sh .some))
 
-pub are-halves : {E K : ℕ} → Shaped E K → (E ≡ K → ⊥) → (E ≡ 8) × (K ≡ 4)
-are-halves bytes32 d = absurd (d refl)
-are-halves halves64 d = (refl, refl)
+pub are-halves : {E K : ℕ} → Shaped E K → (E ≡ K → ⊥) → E / K ≡ 2
+are-halves sh d = let s = shape sh in is-half (s .source) (λ e. let w = rw e at (s .whole) in d (omega arith))
 
--- and so does the element's size
+-- an element of 8 bytes, or two products, tell the shapes apart
 pub of-eight : {E K : ℕ} → Shaped E K → E ≡ 8 → (E ≡ 8) × (K ≡ 4)
 of-eight bytes32 e = absurd (let q : 4 ≡ 8 = e in omega arith)
 of-eight halves64 e = (refl, refl)
+of-eight halves32 e = absurd (let q : 4 ≡ 8 = e in omega arith)
 
-pub of-four : {E K : ℕ} → Shaped E K → (E ≡ 8 → ⊥) → (E ≡ 4) × (K ≡ 4)
-of-four bytes32 d = (refl, refl)
-of-four halves64 d = absurd (d refl)
+pub of-two : {E K : ℕ} → Shaped E K → K ≡ 2 → (E ≡ 4) × (K ≡ 2)
+of-two bytes32 e = absurd (let q : 4 ≡ 2 = e in omega arith)
+of-two halves64 e = absurd (let q : 4 ≡ 2 = e in omega arith)
+of-two halves32 e = (refl, refl)
+
+pub of-neither : {E K : ℕ} → Shaped E K → (E ≡ 8 → ⊥) → (K ≡ 2 → ⊥) → (E ≡ 4) × (K ≡ 4)
+of-neither bytes32 d t = (refl, refl)
+of-neither halves64 d t = absurd (d refl)
+of-neither halves32 d t = absurd (t refl)
 
 pub shaped-as : {E K F L : ℕ} → (E ≡ F) × (K ≡ L) → Shaped E K → Shaped F L
 shaped-as e h = rw (e .0, e .1) at h
 
 pub tiled : {E K : ℕ} → Shaped E K → {vb tile : ℕ} → legal vb ≡ true → tile < E → Tiled E vb tile
-tiled sh {vb} {tile} l h = go sh (legal-length vb l) h
+tiled sh {vb} {tile} l h = go (shape sh .element) (legal-length vb l) h
   where
-    go : {E K : ℕ} → Shaped E K → Length vb → tile < E → Tiled E vb tile
-    go bytes32 n h = record { size = n; positive = omega arith; wide = omega arith; narrow = omega arith; whole = omega arith; tile-in = h }
-    go halves64 n h = record { size = n; positive = omega arith; wide = omega arith; narrow = omega arith; whole = omega arith; tile-in = h }
+    go : {E : ℕ} → FourOrEight E → Length vb → tile < E → Tiled E vb tile
+    go four n h = record { size = n; positive = omega arith; wide = omega arith; narrow = omega arith; whole = omega arith; tile-in = h }
+    go eight n h = record { size = n; positive = omega arith; wide = omega arith; narrow = omega arith; whole = omega arith; tile-in = h }
 
 pub on-tile : {vb : ℕ} {o : OuterProduct} {z p : List ℕ} → Shaped (o .element) (o .products) → Ready (o .element) vb o z p
     → Tiled (o .element) vb (o .tile .0)
@@ -128,9 +134,9 @@ last-byte vb K B i k s h l =
     let m : (K * i + k + 1) * B ≤ (K * i + K) * B = mul-le-mul-right B (omega arith) in
     omega arith
 
-few-columns : {E K : ℕ} → Shaped E K → (vb : ℕ) → Length vb → vb / E ≤ 64
-few-columns bytes32 vb n = omega arith
-few-columns halves64 vb n = omega arith
+few-columns : {E : ℕ} → FourOrEight E → (vb : ℕ) → Length vb → vb / E ≤ 64
+few-columns four vb n = omega arith
+few-columns eight vb n = omega arith
 
 pub numbered : {E K : ℕ} → Shaped E K → {vb c j : ℕ} → legal vb ≡ true → c < vb / E → j < K → Numbered E K vb c j
 numbered {E} {K} sh {vb} {c} {j} l h k =
@@ -143,7 +149,7 @@ numbered {E} {K} sh {vb} {c} {j} l h k =
       inside = omega arith;
       number = omega arith;
       small = n .most;
-      column = omega (arith, few-columns sh vb n);
+      column = omega (arith, few-columns (s .element) vb n);
       product = omega (arith, s .few);
       some = s .some;
       wide = b;

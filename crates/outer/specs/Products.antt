@@ -1,6 +1,6 @@
 -- What an outer product adds to each element of its tile (document 01, "Execution"; Arm's pseudocode of SUMOPS and
--- USMOP4S). Over the size E of a tile element in bytes and the number K of products, as parameters of the definitions and
--- their laws; a source element has E / K bytes. `sums` reads both off an outer product.
+-- USMOP4S, and of the 2-way forms). Over the size E of a tile element in bytes and the number K of products, as parameters of
+-- the definitions and their laws; a source element has E / K bytes. `sums` reads both off an outer product.
 use mathlib.Core.Path.{_≡_}
 use mathlib.Core.Bool.{Bool, true, cond, _&&_}
 use mathlib.Core.List.{List}
@@ -68,17 +68,31 @@ dot E K vb o z p row col = sum (directedProduct E K vb o z p row col) K
 abbrev pub sums : ℕ → OuterProduct → List ℕ → List ℕ → ℕ → ℕ → ℤ
 sums vb o z p = dot (o .element) (o .products) vb o z p
 
--- low ≤ z ≤ high: document 01's bounds of the products of an element
-pub record Between (low high z : ℤ) : Type 0 where
-  pub above : low ≤ℤ z
-  pub below : z ≤ℤ high
-
--- ---- what a caller has seen to before an update
+-- ---- what the products of an element come to together
 
 -- the shapes that there are: bytes of a tile element, and how many products come to it
 pub data Shaped : ℕ → ℕ → Type 0 where
   bytes32 : Shaped 4 4
   halves64 : Shaped 8 4
+  halves32 : Shaped 4 2
+
+-- their least and their most: document 01's figures for four products; two of halfwords come to half of what four do
+abbrev pub least : {E K : ℕ} → Shaped E K → ℤ
+least bytes32 = negℤ (pos 130560)
+least halves64 = negℤ (pos 8589803520)
+least halves32 = negℤ (pos 4294901760)
+
+abbrev pub most : {E K : ℕ} → Shaped E K → ℤ
+most bytes32 = pos 260100
+most halves64 = pos 17179344900
+most halves32 = pos 8589672450
+
+-- low ≤ z ≤ high
+pub record Between (low high z : ℤ) : Type 0 where
+  pub above : low ≤ℤ z
+  pub below : z ≤ℤ high
+
+-- ---- what a caller has seen to before an update
 
 -- a governing predicate is one of the sixteen
 abbrev pub GoodPredication : Predication → Type 0

@@ -113,6 +113,10 @@ fn add_part(
         add_columns(8, 4, vb, tile, row, from, to, &x, y, za);
         return;
     }
+    if o.products == 2 {
+        add_columns(4, 2, vb, tile, row, from, to, &x, y, za);
+        return;
+    }
     add_columns(4, 4, vb, tile, row, from, to, &x, y, za);
 }
 

@@ -11,6 +11,7 @@ use lib.IntN.{ℤ, pos, _+ℤ_}
 use borrow.Author.Tests.{eqb-true, eq-eqb, ne-eqb, ltb-true}
 use Rattle.isa.specs.Table.{elementBytes, ranges, inRange}
 use Rattle.isa.specs.Answers.{absent, describe}
+use Rattle.isa.specs.declared.Operation.{Operation}
 use Rattle.isa.specs.declared.Refusal.{Refusal}
 use Rattle.isa.specs.declared.Instruction.{Instruction}
 use Rattle.isa.specs.declared.Instruction.the-variants.{Predicated, Quarter, Zero}
@@ -19,7 +20,6 @@ use Rattle.isa.proofs.Rows.{both}
 use Rattle.isa.proofs.Theorems.{described-is}
 use Rattle.storage.specs.Tile.{clear}
 use Rattle.outer.specs.declared.OuterProduct.{OuterProduct}
-use Rattle.outer.specs.Products.{Shaped, bytes32, halves64}
 use Rattle.outer.proofs.Negation.{otherWay, dot-negated}
 use Rattle.replay.specs.Machine.{Machine, withZa}
 use Rattle.replay.specs.Operands.{predicatedOuter, quarterOuter}
@@ -31,7 +31,6 @@ use Rattle.replay.specs.Demand3.{reversed, sumAt, total, Names, Apart}
 use Rattle.replay.proofs.Execution.{after-by}
 use Rattle.replay.proofs.Keeping.{za-keeps, after-keeps, kept-is, same-refusal}
 use Rattle.replay.proofs.Acts.{Act, idle, add, step, undo, Width, narrow, wide, Fit, shares, gives, given, Clean}
-use Rattle.replay.proofs.Ready.{shaped}
 use Rattle.replay.proofs.Twins.{Twin, twin}
 
 -- ---- lists on one bench, Z and P, as they go from ZA to ZA
@@ -55,16 +54,19 @@ tileOf none = none
 tileOf (some a) = some (record { E = a .E; tile = a .tile })
 
 -- ---- what an instruction adds: outer products add to the tile that they name, by elements of 4 bytes or 8, and clear nothing
-shape-width : {E K : ℕ} → Shaped E K → Width E
-shape-width bytes32 = narrow
-shape-width halves64 = wide
+element-width : (op : Operation) → Width (elementBytes op)
+element-width op = go (op .wide)
+  where
+    go : (b : Bool) → Width (cond b 8 4)
+    go true = wide
+    go false = narrow
 
 module _ (m : Machine) where
   action-fits : (r : Option Refusal) (d : Option Instruction) → Fit (action r (additionOf m d))
   action-fits (some r) d = tt
   action-fits none none = tt
-  action-fits none (some (Predicated op tile pn pm zn zm)) = shape-width (shaped op)
-  action-fits none (some (Quarter op tile first second)) = shape-width (shaped op)
+  action-fits none (some (Predicated op tile pn pm zn zm)) = element-width op
+  action-fits none (some (Quarter op tile first second)) = element-width op
   action-fits none (some (Zero mask)) = tt
 
   names-added : (d : Option Instruction) → tileNamed d ≡ tileOf (additionOf m d)
@@ -124,10 +126,10 @@ action-gives E t row col none (some a) = refl
 tile-lt : (E t : ℕ) (i : Instruction) → inRange i ≡ true → namesTile E t (some i) ≡ true → t < E
 tile-lt E t (Predicated op tile pn pm zn zm) h a =
     let (x, y) = both (eqb (elementBytes op) E) (eqb (tile .0) t) a in
-    rw (← eqb-true (elementBytes op) E x, ← eqb-true (tile .0) t y) (ltb-true _ _ (every-all (ranges (Predicated op tile pn pm zn zm)) h .0))
+    rw (← eqb-true (elementBytes op) E x, ← eqb-true (tile .0) t y) (ltb-true _ _ (every-all (ranges (Predicated op tile pn pm zn zm)) h .1 .0))
 tile-lt E t (Quarter op tile first second) h a =
     let (x, y) = both (eqb (elementBytes op) E) (eqb (tile .0) t) a in
-    rw (← eqb-true (elementBytes op) E x, ← eqb-true (tile .0) t y) (ltb-true _ _ (every-all (ranges (Quarter op tile first second)) h .0))
+    rw (← eqb-true (elementBytes op) E x, ← eqb-true (tile .0) t y) (ltb-true _ _ (every-all (ranges (Quarter op tile first second)) h .1 .0))
 tile-lt E t (Zero mask) h a = absurd (false≢true a)
 
 pub named-tile : (E t w : ℕ) → w < 2 ^ 32 → namesTile E t (describe w) ≡ true → t < E

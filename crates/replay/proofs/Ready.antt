@@ -1,10 +1,11 @@
 -- An instruction in range is ready to be executed on a bench that passed 1 to 5. Assumes nothing.
 use mathlib.Core.Path.{_≡_}
-use mathlib.Core.Bool.{Bool, true, false, cond}
+use mathlib.Core.Bool.{Bool, true, false, false≢true, not, cond, _&&_}
 use Prim.Native.Nat.{_≤_, _<_}
 use native.Mathlib.Omega.{arith}
+use lib.Dec.{eqb}
 use borrow.Author.Tests.{ltb-true, leb-true}
-use Rattle.isa.specs.Table.{elementBytes, productsOf, register, ranges, inRange}
+use Rattle.isa.specs.Table.{bit, elementBytes, productsOf, register, isFormed, ranges, inRange}
 use Rattle.isa.specs.declared.Tile.{Tile}
 use Rattle.isa.specs.declared.Vector.{Vector}
 use Rattle.isa.specs.declared.Predicate.{Predicate}
@@ -13,19 +14,21 @@ use Rattle.isa.specs.declared.Source.{Source}
 use Rattle.isa.specs.declared.Source.the-variants.{One, Pair}
 use Rattle.isa.specs.declared.Instruction.the-variants.{Predicated, Quarter}
 use Rattle.isa.proofs.Tests.{every-all}
-use Rattle.outer.specs.Products.{Shaped, bytes32, halves64, GoodOperand, Ready}
+use Rattle.outer.specs.Products.{Shaped, bytes32, halves64, halves32, GoodOperand, Ready}
 use Rattle.outer.specs.declared.Operand.{Operand}
-use Rattle.replay.specs.Operands.{governedOperand, halvesOperand, outerProduct, predicatedOuter, quarterOuter}
+use Rattle.replay.specs.Operands.{governedOperand, halvesOperand, outerProduct}
 use Rattle.replay.specs.Machine.{Machine}
 use Rattle.replay.specs.Claims.{BenchPasses}
 
--- the shape of every operation
-pub shaped : (op : Operation) → Shaped (elementBytes op) (productsOf op)
-shaped op = go (op .wide)
+-- the shape of an operation in range
+shaped : (op : Operation) → isFormed op ≡ true → Shaped (elementBytes op) (productsOf op)
+shaped op h = go (op .wide) (op .«two_way») h
   where
-    go : (wide : Bool) → Shaped (cond wide 8 4) 4
-    go true = halves64
-    go false = bytes32
+    go : (wide two : Bool) → cond two (not wide && eqb (bit (op .u0)) (bit (op .u1))) true ≡ true → Shaped (cond wide 8 4) (cond two 2 4)
+    go false false e = bytes32
+    go true false e = halves64
+    go false true e = halves32
+    go true true e = absurd (false≢true e)
 
 governed-good : (v : Vector) (p : Predicate) (unsigned : Bool) → v .0 < 32 → p .0 < 8 → GoodOperand (governedOperand v p unsigned)
 governed-good v p unsigned h k = record { low = h; high = h; predication = omega arith }
@@ -40,31 +43,38 @@ pub quarter-registers : (op : Operation) (tile : Tile) (first second : Source) �
     → (register first ≤ 14) × (register second ≤ 30)
 quarter-registers op tile first second h =
     let r = every-all (ranges (Quarter op tile first second)) h in
-    (leb-true _ _ (r .1 .1 .0), leb-true _ _ (r .1 .1 .1 .1 .1 .0))
+    (leb-true _ _ (r .1 .1 .1 .0), leb-true _ _ (r .1 .1 .1 .1 .1 .1 .0))
 
 module _ (m : Machine) (fits : BenchPasses m) (op : Operation) (tile : Tile) where
+  -- what an update asks
+  abbrev Updates : Operand → Operand → Type 0
+  Updates first second =
+      Shaped (elementBytes op) (productsOf op) × Ready (elementBytes op) (m .bench .vb) (outerProduct op tile first second) (m .z) (m .p)
+
   -- whatever its operands
-  ready : (first second : Operand) → tile .0 < elementBytes op → GoodOperand first → GoodOperand second
-      → Ready (elementBytes op) (m .bench .vb) (outerProduct op tile first second) (m .z) (m .p)
-  ready first second h f s = record {
-    length-legal = fits .length-legal;
-    z-size = fits .z-size;
-    p-size = fits .p-size;
-    tile = h;
-    first = f;
-    second = s;
-  }
+  ready : (first second : Operand) → isFormed op ≡ true → tile .0 < elementBytes op → GoodOperand first → GoodOperand second → Updates first second
+  ready first second e h f s = (
+    shaped op e,
+    record {
+      length-legal = fits .length-legal;
+      z-size = fits .z-size;
+      p-size = fits .p-size;
+      tile = h;
+      first = f;
+      second = s;
+    },
+  )
 
   pub predicated-ready : (pn pm : Predicate) (zn zm : Vector) → inRange (Predicated op tile pn pm zn zm) ≡ true
-      → Ready (elementBytes op) (m .bench .vb) (predicatedOuter op tile pn pm zn zm) (m .z) (m .p)
+      → Updates (governedOperand zn pn (op .u0)) (governedOperand zm pm (op .u1))
   predicated-ready pn pm zn zm h =
       let r = every-all (ranges (Predicated op tile pn pm zn zm)) h in
-      ready _ _ (ltb-true _ _ (r .0)) (governed-good zn pn (op .u0) (omega (arith, ltb-true)) (omega (arith, ltb-true)))
+      ready _ _ (r .0) (ltb-true _ _ (r .1 .0)) (governed-good zn pn (op .u0) (omega (arith, ltb-true)) (omega (arith, ltb-true)))
       (governed-good zm pm (op .u1) (omega (arith, ltb-true)) (omega (arith, ltb-true)))
 
   pub quarter-ready : (first second : Source) → inRange (Quarter op tile first second) ≡ true
-      → Ready (elementBytes op) (m .bench .vb) (quarterOuter op tile first second) (m .z) (m .p)
+      → Updates (halvesOperand first (op .u0)) (halvesOperand second (op .u1))
   quarter-ready first second h =
       let r = every-all (ranges (Quarter op tile first second)) h in
       let (f, s) = quarter-registers op tile first second h in
-      ready _ _ (ltb-true _ _ (r .0)) (halves-good first (op .u0) (omega arith)) (halves-good second (op .u1) s)
+      ready _ _ (r .0) (ltb-true _ _ (r .1 .0)) (halves-good first (op .u0) (omega arith)) (halves-good second (op .u1) s)

@@ -23,7 +23,7 @@ use Rattle.replay.specs.Exchange.{exchanged}
 -- ---- add and subtract exchanged
 
 abbrev pub otherDirection : Operation → Operation
-otherDirection op = record { wide = op .wide; u0 = op .u0; u1 = op .u1; subtract = not (op .subtract) }
+otherDirection op = record { wide = op .wide; «two_way» = op .«two_way»; u0 = op .u0; u1 = op .u1; subtract = not (op .subtract) }
 
 -- an instruction with add and subtract exchanged; ZERO has neither
 abbrev pub reversed : Option Instruction → Option Instruction

@@ -1,25 +1,42 @@
-// Decodes all 2^32 words with every feature on: how many each family accepts, and how many descriptions encode to
-// another word than the one that they came from.
+// Decodes all 2^32 words, with every feature on and with document 01's: how many each line of the table accepts, how many
+// descriptions encode to another word than the one that they came from, and how many words `decode_number` numbers otherwise.
+ghost use Prim.Native.Nat.{_<_};
 use checks::count;
 use checks::one_if;
 use checks::plus;
 use isa::Decoded;
 use isa::Encoded;
 use isa::Instruction;
+use isa::Operation;
 
-const ALL_FEATURES: u32 = 7;
+const ALL_FEATURES: u32 = 15;
+
+// SME, I16I64 and MOP4.
+const DOCUMENT_01: u32 = 7;
+
+// The lines of the table are numbered from 0; a refused word has none.
+const NO_LINE: u32 = 7;
 
 pub struct Tally {
     pub predicated32: u64,
     pub predicated64: u64,
+    pub predicated_two_way: u64,
     pub quarter32: u64,
     pub quarter64: u64,
+    pub quarter_two_way: u64,
     pub zero: u64,
     pub changed: u64,
+    pub renumbered: u64,
 }
 
 fn main() {
-    let t = sweep();
+    report(ALL_FEATURES);
+    report(DOCUMENT_01);
+}
+
+fn report(flags: u32) {
+    let t = sweep(flags);
+    count(b"flags ", flags as u64);
     count(b"predicated 32: ", t.predicated32);
     count(b"predicated 64: ", t.predicated64);
     count(b"quarter 32: ", t.quarter32);
@@ -27,48 +44,61 @@ fn main() {
     count(b"zero: ", t.zero);
     let predicated = plus(t.predicated32, t.predicated64);
     let quarter = plus(t.quarter32, t.quarter64);
-    count(b"total: ", plus(plus(predicated, quarter), t.zero));
+    let base = plus(plus(predicated, quarter), t.zero);
+    count(b"document 01's table: ", base);
+    count(b"predicated 2-way: ", t.predicated_two_way);
+    count(b"quarter 2-way: ", t.quarter_two_way);
+    let two_way = plus(t.predicated_two_way, t.quarter_two_way);
+    count(b"total: ", plus(base, two_way));
     count(b"encoded to another word: ", t.changed);
+    count(b"numbered otherwise: ", t.renumbered);
 }
 
-fn sweep() -> Tally {
+fn sweep(flags: u32) -> Tally {
     let mut t = Tally {
         predicated32: 0,
         predicated64: 0,
+        predicated_two_way: 0,
         quarter32: 0,
         quarter64: 0,
+        quarter_two_way: 0,
         zero: 0,
         changed: 0,
+        renumbered: 0,
     };
     let mut w: u64 = 0;
     while w < 0x1_0000_0000 {
-        t = with_word(t, w as u32);
+        t = with_word(t, flags, w as u32);
         w += 1;
     }
     t
 }
 
 // The tally with one word more.
-fn with_word(t: Tally, word: u32) -> Tally {
-    match isa::decode(ALL_FEATURES, word) {
-        Decoded::Accepted(i) => counted(t, family(i), encodes_to(i, word)),
-        Decoded::Refused(_) => t,
+fn with_word(t: Tally, flags: u32, word: u32) -> Tally {
+    let number = isa::decode_number(flags, word);
+    match isa::decode(flags, word) {
+        Decoded::Accepted(i) => counted(t, line(i), encodes_to(i, word), number == 0),
+        Decoded::Refused(r) => counted(t, NO_LINE, true, number == isa::number(r)),
     }
 }
 
-fn counted(t: Tally, family: u32, same: bool) -> Tally {
+fn counted(t: Tally, line: u32, same_word: bool, same_number: bool) -> Tally {
     Tally {
-        predicated32: plus(t.predicated32, one_if(family == 0)),
-        predicated64: plus(t.predicated64, one_if(family == 1)),
-        quarter32: plus(t.quarter32, one_if(family == 2)),
-        quarter64: plus(t.quarter64, one_if(family == 3)),
-        zero: plus(t.zero, one_if(family == 4)),
-        changed: plus(t.changed, one_if(!same)),
+        predicated32: plus(t.predicated32, one_if(line == 0)),
+        predicated64: plus(t.predicated64, one_if(line == 1)),
+        quarter32: plus(t.quarter32, one_if(line == 2)),
+        quarter64: plus(t.quarter64, one_if(line == 3)),
+        zero: plus(t.zero, one_if(line == 4)),
+        predicated_two_way: plus(t.predicated_two_way, one_if(line == 5)),
+        quarter_two_way: plus(t.quarter_two_way, one_if(line == 6)),
+        changed: plus(t.changed, one_if(!same_word)),
+        renumbered: plus(t.renumbered, one_if(!same_number)),
     }
 }
 
-// The instruction's line of the table, from 0.
-fn family(i: Instruction) -> u32 {
+// The instruction's line of the table.
+fn line(i: Instruction) -> u32 {
     match i {
         Instruction::Predicated {
             op,
@@ -77,21 +107,25 @@ fn family(i: Instruction) -> u32 {
             pm: _,
             zn: _,
             zm: _,
-        } => {
-            let wide = op.wide;
-            if wide { 1 } else { 0 }
-        }
+        } => line_of(op, 0, 5),
         Instruction::Quarter {
             op,
             tile: _,
             first: _,
             second: _,
-        } => {
-            let wide = op.wide;
-            if wide { 3 } else { 2 }
-        }
+        } => line_of(op, 2, 6),
         Instruction::Zero(_) => 4,
     }
+}
+
+// That of an outer product: the wide line of a family stands behind its narrow one.
+fn line_of(op: Operation, narrow: u32, two_way: u32) -> u32
+    requires { ⌜ narrow < 8 ⌝ }
+{
+    if op.two_way {
+        return two_way;
+    }
+    if op.wide { narrow + 1 } else { narrow }
 }
 
 fn encodes_to(i: Instruction, word: u32) -> bool {

@@ -1,12 +1,15 @@
 -- What print answers and leaves, by what decode answers. Assumes nothing.
-use mathlib.Core.Path.{_≡_, _∙_, refl}
+use mathlib.Core.Path.{_≡_, _∙_, refl, subst}
 use mathlib.Core.Bool.{Bool, true, false, cond}
 use mathlib.Core.List.{List, [], _∷_, _++_}
 use mathlib.Core.Option.{none, some}
-use Prim.Native.Nat.{ℕ, _≤_, _<_}
+use Prim.Native.Nat.{ℕ, suc, _≤_, _<_}
+use native.Mathlib.Nat.{zero-add}
+use native.Mathlib.Omega.{arith}
 use lib.Dec.{ltb}
 use borrow.Author.Tests.{lt-ltb, le-ltb}
-use lib.ListN.{length, take, drop}
+use lib.ListN.{length, take, drop, set, getD}
+use lib.Seq.{paste, paste-suc}
 use Rattle.isa.specs.Refusals.{firstFailure}
 use Rattle.isa.specs.Answers.{decodeTests, decodeOf}
 use Rattle.isa.specs.declared.Instruction.{Instruction}
@@ -19,6 +22,12 @@ use Rattle.text.specs.Spelling.{spelling}
 use Rattle.text.specs.Put.{printedIn, filledWith}
 use Rattle.text.specs.Printing.{textOf, printed, filled, printTests, printOf, roomAfter}
 use Rattle.text.specs.declared.Printed.the-variants.{Length, Refused}
+
+-- ---- a copy to the start of a room, element by element
+pub paste-next : (room text : List ℕ) (i : ℕ) → i < length room → i < length text → set (paste room 0 text i) i (getD text i 0) ≡ paste room 0 text (suc i)
+paste-next room text i h l =
+    subst (λ (n : ℕ). set (paste room 0 text i) n (getD text i 0) ≡ paste room 0 text (suc i)) (zero-add i)
+    (paste-suc room 0 text i 0 (omega arith) l)
 
 -- ---- the text fits the room, or does not
 pub too-short : (i : Instruction) (room : List ℕ) → length room < length (spelling i) → (Refused Room ≡ printedIn i (length room)) × (room ≡ filledWith i room)

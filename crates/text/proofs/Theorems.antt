@@ -26,8 +26,8 @@ use Rattle.text.specs.Claims.{OfLength, Holds, Prints}
 use Rattle.text.proofs.Rooms.{accepted-text, print-accepted, room-accepted, print-refused, room-refused}
 use Rattle.text.proofs.Lengths.{line-between}
 
--- decode refuses with 1, 7 or 8: with a number that print gives nothing else
-decode-number : (flags w : ℕ) (r : Refusal) → decodeOf flags w ≡ NotDecoded r → (0 < number r) × (number r < 12)
+-- decode refuses with 1, 7 or 8: with a number that a short room never gets
+pub decode-number : (flags w : ℕ) (r : Refusal) → decodeOf flags w ≡ NotDecoded r → (0 < number r) × (number r < 12)
 decode-number flags w r p = go (ltb allFlags flags) (absent (describe w)) (not (eqb (missing flags w) 0)) (decode-refused flags w r p)
   where
     at : {q : Refusal} → q ≡ r → (0 < number q) × (number q < 12) → (0 < number r) × (number r < 12)
@@ -39,59 +39,65 @@ decode-number flags w r p = go (ltb allFlags flags) (absent (describe w)) (not (
     go false false true q = let e : FeatureOff ≡ r = cc in at e (omega arith, omega arith)
     go false false false q = let z : _≡_ {A = ℕ} 0 1 = cc in absurd (omega arith)
 
--- the three outcomes, by decode's number, print's number, the length, and what the room then holds
-data Outcome (t room : List ℕ) : ℕ → ℕ → ℕ → List ℕ → Type 0 where
-  fits : length t ≤ length room → OfLength 1 63 t → Outcome t room 0 0 (length t) (t ++ drop (length t) room)
-  short : length room < length t → Outcome t room 0 12 0 room
-  refused : {k : ℕ} → 0 < k → k < 12 → Outcome t room k k 0 room
+-- what comes of putting t, if a word has it, at the start of a room: by decode's number, the number given, how much was put,
+-- and what the room then holds. Q is known of the t of an accepted word.
+pub data Outcome (Q : Type 0) (t room : List ℕ) : ℕ → ℕ → ℕ → List ℕ → Type 0 where
+  fits : length t ≤ length room → Q → Outcome Q t room 0 0 (length t) (t ++ drop (length t) room)
+  short : length room < length t → Q → Outcome Q t room 0 12 0 room
+  refused : {k : ℕ} → 0 < k → k < 12 → Outcome Q t room k k 0 room
 
-module _ {t room : List ℕ} where
-  accepts : {d p n : ℕ} {after : List ℕ} → Outcome t room d p n after → (p ≡ 0) ↔ (d ≡ 0) × (length t ≤ length room)
+module _ {Q : Type 0} {t room : List ℕ} where
+  pub accepts : {d p n : ℕ} {after : List ℕ} → Outcome Q t room d p n after → (p ≡ 0) ↔ (d ≡ 0) × (length t ≤ length room)
   accepts (fits h l) = (λ e. (refl, h), λ c. refl)
-  accepts (short h) = (λ e. absurd (omega arith), λ c. absurd (omega arith))
+  accepts (short h l) = (λ e. absurd (omega arith), λ c. absurd (omega arith))
   accepts (refused h l) = (λ e. absurd (omega arith), λ c. absurd (omega arith))
 
-  -- a number of decode's is print's, and print has it from decode alone
-  same : {d p n : ℕ} {after : List ℕ} (k : ℕ) → 0 < k → k < 12 → Outcome t room d p n after → (p ≡ k) ↔ (d ≡ k)
+  -- a number of decode's is given, and has come from decode alone
+  pub same : {d p n : ℕ} {after : List ℕ} (k : ℕ) → 0 < k → k < 12 → Outcome Q t room d p n after → (p ≡ k) ↔ (d ≡ k)
   same k a b (fits h l) = (λ e. e, λ e. e)
-  same k a b (short h) = (λ e. absurd (omega arith), λ e. absurd (omega arith))
+  same k a b (short h l) = (λ e. absurd (omega arith), λ e. absurd (omega arith))
   same k a b (refused h l) = (λ e. e, λ e. e)
 
-  gives-12 : {d p n : ℕ} {after : List ℕ} → Outcome t room d p n after → (p ≡ 12) ↔ (d ≡ 0) × (length room < length t)
+  pub gives-12 : {d p n : ℕ} {after : List ℕ} → Outcome Q t room d p n after → (p ≡ 12) ↔ (d ≡ 0) × (length room < length t)
   gives-12 (fits h l) = (λ e. absurd (omega arith), λ c. absurd (omega arith))
-  gives-12 (short h) = (λ e. (refl, h), λ c. refl)
+  gives-12 (short h l) = (λ e. (refl, h), λ c. refl)
   gives-12 (refused h l) = (λ e. absurd (omega arith), λ c. absurd (omega arith))
 
-  unchanged : {d p n : ℕ} {after : List ℕ} → Outcome t room d p n after → (p ≡ 0 → ⊥) → (after ≡ room) × (n ≡ 0)
+  pub known : {d p n : ℕ} {after : List ℕ} → Outcome Q t room d p n after → d ≡ 0 → Q
+  known (fits h l) e = l
+  known (short h l) e = l
+  known (refused h l) e = absurd (omega arith)
+
+  pub unchanged : {d p n : ℕ} {after : List ℕ} → Outcome Q t room d p n after → (p ≡ 0 → ⊥) → (after ≡ room) × (n ≡ 0)
   unchanged (fits h l) z = absurd (z refl)
-  unchanged (short h) z = (refl, refl)
+  unchanged (short h l) z = (refl, refl)
   unchanged (refused h l) z = (refl, refl)
 
-  holds : {d p n : ℕ} {after : List ℕ} → Outcome t room d p n after → p ≡ 0 → Holds t n room after
-  holds (fits h l) e =
-      record {
-        whole = refl;
-        least = l .low;
-        most = l .high;
-        text = take-append-seam t (drop (length t) room);
-        rest = drop-append-seam t (drop (length t) room);
-        size = simp (length-append, length-drop) (omega arith);
-      }
-  holds (short h) e = absurd (omega arith)
-  holds (refused h l) e = absurd (omega arith)
+holds : {t room : List ℕ} {d p n : ℕ} {after : List ℕ} → Outcome (OfLength 1 63 t) t room d p n after → p ≡ 0 → Holds t n room after
+holds {t} {room} (fits h l) e =
+    record {
+      whole = refl;
+      least = l .low;
+      most = l .high;
+      text = take-append-seam t (drop (length t) room);
+      rest = drop-append-seam t (drop (length t) room);
+      size = simp (length-append, length-drop) (omega arith);
+    }
+holds (short h l) e = absurd (omega arith)
+holds (refused h l) e = absurd (omega arith)
 
 -- every print has one of them
 abbrev OutcomeOf : ℕ → ℕ → List ℕ → Type 0
 OutcomeOf flags w room =
     let n = length room in
-    Outcome (textOf w) room (decodeNumber flags w) (printNumber flags w n) (printLength flags w n) (roomAfter flags w room)
+    Outcome (OfLength 1 63 (textOf w)) (textOf w) room (decodeNumber flags w) (printNumber flags w n) (printLength flags w n) (roomAfter flags w room)
 
 outcome : (flags w : ℕ) (room : List ℕ) → OutcomeOf flags w room
 outcome flags w room = by-answer (decodeOf flags w) refl
   where
     by-room : (i : Instruction) (b : Bool) → ltb (length room) (length (spelling i)) ≡ b → OfLength 1 63 (spelling i)
-        → Outcome (spelling i) room 0 (printedNumber (printedIn i (length room))) (printedLength (printedIn i (length room))) (filledWith i room)
-    by-room i true q l = rw q (short (ltb-true (length room) (length (spelling i)) q))
+        → Outcome (OfLength 1 63 (spelling i)) (spelling i) room 0 (printedNumber (printedIn i (length room))) (printedLength (printedIn i (length room))) (filledWith i room)
+    by-room i true q l = rw q (short (ltb-true (length room) (length (spelling i)) q) l)
     by-room i false q l = rw q (fits (ltb-false (length room) (length (spelling i)) q) l)
 
     by-answer : (a : Decoded) → decodeOf flags w ≡ a → OutcomeOf flags w room

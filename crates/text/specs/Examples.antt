@@ -1,4 +1,4 @@
--- Prints as rows of one table: names of both widths and of every shape, rooms, and the order of the refusals.
+-- Prints as rows of one table: names of every size and shape, rooms, and the order of the refusals.
 -- proofs/Examples.antt shows that each comes out so. The paper's own examples are rows of crates/bench/specs/Examples.antt.
 use mathlib.Core.List.{List, [], _∷_, map}
 use Prim.Native.Nat.{ℕ}
@@ -22,6 +22,11 @@ examples =
     ∷ record { flags = 7; word = 0xA1A01FF1; room = 64; number = 0; bytes = 36; text = ascii "umops za1.s, p7/m, p0/m, z31.b, z0.b" }
     ∷ record { flags = 7; word = 0x801081C3; room = 64; number = 0; bytes = 36; text = ascii "smop4a za3.s, z14.b, { z16.b-z17.b }" }
     ∷ record { flags = 7; word = 0xA1EE021D; room = 64; number = 0; bytes = 34; text = ascii "umop4s za5.d, { z0.h-z1.h }, z30.h" }
+    ∷ record { flags = 15; word = 0xA0800008; room = 64; number = 0; bytes = 35; text = ascii "smopa za0.s, p0/m, p0/m, z0.h, z0.h" }
+    ∷ record { flags = 15; word = 0xA1800018; room = 64; number = 0; bytes = 35; text = ascii "umops za0.s, p0/m, p0/m, z0.h, z0.h" }
+    ∷ record { flags = 15; word = 0x80008008; room = 64; number = 0; bytes = 25; text = ascii "smop4a za0.s, z0.h, z16.h" }
+    ∷ record { flags = 15; word = 0x81008018; room = 64; number = 0; bytes = 25; text = ascii "umop4s za0.s, z0.h, z16.h" }
+    ∷ record { flags = 15; word = 0x80168358; room = 64; number = 0; bytes = 46; text = ascii "smop4s za0.s, { z10.h-z11.h }, { z22.h-z23.h }" }
     ∷ record { flags = 7; word = 0xC0080000; room = 64; number = 0; bytes = 7; text = ascii "zero {}" }
     ∷ record { flags = 7; word = 0xC0080011; room = 64; number = 0; bytes = 21; text = ascii "zero { za0.d, za4.d }" }
     ∷ record { flags = 7; word = 0xC00800FF; room = 63; number = 0; bytes = 63; text = ascii "zero { za0.d, za1.d, za2.d, za3.d, za4.d, za5.d, za6.d, za7.d }" }
@@ -30,8 +35,8 @@ examples =
     ∷ record { flags = 7; word = 0x81000010; room = 0; number = 7; bytes = 0; text = [] }
     ∷ record { flags = 4; word = 0xA1C0001F; room = 0; number = 8; bytes = 0; text = [] }
     ∷ record { flags = 6; word = 0xA1C0001F; room = 0; number = 12; bytes = 0; text = [] }
-    ∷ record { flags = 8; word = 0xC00800FF; room = 0; number = 1; bytes = 0; text = [] }
-    ∷ record { flags = 8; word = 0x81000010; room = 64; number = 1; bytes = 0; text = [] }
+    ∷ record { flags = 16; word = 0xC00800FF; room = 0; number = 1; bytes = 0; text = [] }
+    ∷ record { flags = 16; word = 0x81000010; room = 64; number = 1; bytes = 0; text = [] }
     ∷ []
 
 -- what print does with an example's word; the room holds zeros before

@@ -14,7 +14,7 @@ use isa::Decoded;
 use libc::STDOUT_FILENO;
 use replay::Bench;
 
-const ALL_FEATURES: u32 = 7;
+const ALL_FEATURES: u32 = 15;
 
 const LISTS: u32 = 36;
 
@@ -176,7 +176,7 @@ fn draw(x: u32, words: &mut [u32]) {
         let y = next(x);
         let kind = next(y);
         x = next(kind);
-        words[i] = word_of(kind / 65536 % 6, joined(y, x));
+        words[i] = word_of(kind / 65536 % 8, joined(y, x));
         i += 1;
     }
 }
@@ -193,8 +193,10 @@ fn word_of(kind: u32, free: u32) -> u32 {
         1 => 0xa0c0_0000 | (free & 0x013f_fff7),
         2 => 0x8000_8000 | (free & 0x013e_03d3),
         3 => 0xa0c0_0008 | (free & 0x013e_03d7),
+        4 => 0xa080_0008 | (free & 0x011f_fff3),
+        5 => 0x8000_8008 | (free & 0x011e_03d3),
         // The quarter-tile forms have 0 in bit 16.
-        4 => 0xa0c1_0008 | (free & 0x013e_03d7),
+        6 => 0xa0c1_0008 | (free & 0x013e_03d7),
         _ => free,
     }
 }

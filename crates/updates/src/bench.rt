@@ -10,10 +10,11 @@ use outer::OuterProduct;
 use outer::Predication;
 
 // An outer product on a tile. The predicated forms read registers 1 and 2 under predicates 1 and 2, the quarter-tile forms
-// registers 2 and 18 or the pairs that start there.
+// registers 2 and 18 or the pairs that start there. The 2-way forms are on 32-bit tiles only.
 pub struct Case {
     pub vb: usize,
     pub wide: bool,
+    pub two_way: bool,
     pub quarter: bool,
     pub first_pair: bool,
     pub second_pair: bool,
@@ -23,11 +24,12 @@ pub struct Case {
     pub subtract: bool,
 }
 
-// A case of signed sources, added to a tile.
+// A 4-way case of signed sources, added to a tile.
 pub(crate) fn predicated(vb: usize, wide: bool, tile: u32) -> Case {
     Case {
         vb,
         wide,
+        two_way: false,
         quarter: false,
         first_pair: false,
         second_pair: false,
@@ -38,18 +40,22 @@ pub(crate) fn predicated(vb: usize, wide: bool, tile: u32) -> Case {
     }
 }
 
-pub(crate) fn quarter(vb: usize, wide: bool, first_pair: bool, second_pair: bool) -> Case {
-    Case {
-        vb,
-        wide,
-        quarter: true,
-        first_pair,
-        second_pair,
-        tile: 0,
-        u0: false,
-        u1: false,
-        subtract: false,
-    }
+// The same of the quarter-tile family, on tile 0 and of single registers.
+pub(crate) fn quarter(vb: usize, wide: bool) -> Case {
+    let mut c = predicated(vb, wide, 0);
+    c.quarter = true;
+    c
+}
+
+pub(crate) fn with_pairs(mut c: Case, first: bool, second: bool) -> Case {
+    c.first_pair = first;
+    c.second_pair = second;
+    c
+}
+
+pub(crate) fn two_way(mut c: Case) -> Case {
+    c.two_way = true;
+    c
 }
 
 pub(crate) fn with_signs(mut c: Case, u0: bool, u1: bool) -> Case {
@@ -107,19 +113,28 @@ fn second_of(c: Case) -> Operand
     operand(18, 18, Predication::Unpredicated, c.u1)
 }
 
-// A tile element has 8 or 4 bytes, and four products come to it.
-fn element_bytes(wide: bool) -> usize
-    ensures { λ r. ⌜ Shaped r 4 ⌝ }
+// The bytes of a tile element, and how many products come to it.
+pub struct Shape(pub usize, pub usize);
+
+fn shape_of(c: Case) -> Shape
+    ensures { λ r. ⌜ Shaped (r .0) (r .1) ⌝ }
 {
-    if wide { 8 } else { 4 }
+    if c.wide {
+        return Shape(8, 4);
+    }
+    if c.two_way {
+        return Shape(4, 2);
+    }
+    Shape(4, 4)
 }
 
-fn outer_product(c: Case, element: usize) -> OuterProduct
-    ensures { λ r. ⌜ (r .element ≡ element) × (r .products ≡ 4) × (r .tile .0 ≡ c .tile) × GoodOperand (r .first) × GoodOperand (r .second) ⌝ }
+fn outer_product(c: Case) -> OuterProduct
+    ensures { λ r. ⌜ Shaped (r .element) (r .products) × (r .tile .0 ≡ c .tile) × GoodOperand (r .first) × GoodOperand (r .second) ⌝ }
 {
+    let shape = shape_of(c);
     OuterProduct {
-        element,
-        products: 4,
+        element: shape.0,
+        products: shape.1,
         tile: Tile(c.tile),
         first: first_of(c),
         second: second_of(c),
@@ -159,9 +174,8 @@ fn run_guarded(c: Case, z: &[u8], p: &[u8], za: &mut [u8]) {
     if za.len() != vb * vb {
         return;
     }
-    let element = element_bytes(c.wide);
-    let o = outer_product(c, element);
-    if (c.tile as usize) < element {
+    let o = outer_product(c);
+    if (c.tile as usize) < o.element {
         outer::update(vb, o, z, p, za);
     }
 }
@@ -205,20 +219,26 @@ pub(crate) fn set_row(s: &mut [u8], width: usize, row: usize, even: u8, odd: u8)
     set_pattern(s, width, row, Pattern::Bytes(even, odd));
 }
 
-// Every element of a register, of 8 or of 16 bits.
+// Whether source elements have 16 bits, and not 8.
+fn has_halfwords(c: Case) -> bool {
+    c.wide | c.two_way
+}
+
+// Every element of a register is set to v, or the elements to 0, 1, 2, ..
+
 pub(crate) fn set_elements(z: &mut [u8], c: Case, register: usize, v: u8) {
-    if c.wide {
+    if has_halfwords(c) {
         set_row(z, c.vb, register, v, 0);
     } else {
         set_row(z, c.vb, register, v, v);
     }
 }
 
-pub(crate) fn set_ramp(s: &mut [u8], width: usize, row: usize, halfwords: bool) {
-    if halfwords {
-        set_pattern(s, width, row, Pattern::HalfwordRamp);
+pub(crate) fn set_ramp(z: &mut [u8], c: Case, register: usize) {
+    if has_halfwords(c) {
+        set_pattern(z, c.vb, register, Pattern::HalfwordRamp);
     } else {
-        set_pattern(s, width, row, Pattern::Ramp);
+        set_pattern(z, c.vb, register, Pattern::Ramp);
     }
 }
 

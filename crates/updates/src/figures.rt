@@ -82,7 +82,7 @@ fn write(text: &[u8]) {
     io::write_all(STDOUT_FILENO, text);
 }
 
-// A case's mnemonic, tile and vector length.
+// A case's mnemonic, tile, vector length and registers.
 fn write_case(c: Case) {
     write_signs(c.u0, c.u1);
     write(b"mop");
@@ -96,10 +96,14 @@ fn write_case(c: Case) {
     }
     io::print_decimal(STDOUT_FILENO, c.tile as u64);
     if c.wide {
-        write(b".d vb ");
+        write(b".d");
     } else {
-        write(b".s vb ");
+        write(b".s");
     }
+    if c.two_way {
+        write(b" 2-way");
+    }
+    write(b" vb ");
     io::print_decimal(STDOUT_FILENO, c.vb as u64);
     if c.quarter {
         write_sources(c.first_pair, c.second_pair);

@@ -68,17 +68,31 @@ fn activity32(t: Tally, c: Case, row1: usize) -> Tally {
     under(t, s, b"pn 005a pm 00ff", 0x5a, 0xff, row1, 0xffff_ffe2)
 }
 
-// Bit 2·e governs element e: 5555 is all, AAAA none. Of 0453 bits 0, 4 and 6 are elements 0, 2 and 3 of row or column 0,
-// bit 10 is element 1 of row or column 1, and bit 1 is none.
+// Of four products all count, three in row or column 0 under 0453, and one in row or column 1.
 fn activity64(t: Tally, c: Case, row1: usize) -> Tally {
+    activity_of_halfwords(t, c, row1, 8, Sums(0x3c, 0x2d, 0xf))
+}
+
+// What comes to an element where all products count, and under 0453 in row or column 0 and in row or column 1.
+pub struct Sums(pub u64, pub u64, pub u64);
+
+// Bit 2·e governs element e: 5555 is all, AAAA none. Of 0453 bits 0, 4, 6 and 10 are elements 0, 2, 3 and 5, and bit 1 is
+// none.
+pub(crate) fn activity_of_halfwords(
+    t: Tally,
+    c: Case,
+    row1: usize,
+    col1: usize,
+    sums: Sums,
+) -> Tally {
     let mut t = t;
-    t = under(t, c, b"pn 5555 pm ffff", 0x5555, 0xffff, 0, 0x3c);
-    t = under(t, c, b"pn ffff pm 5555", 0xffff, 0x5555, 0, 0x3c);
+    t = under(t, c, b"pn 5555 pm ffff", 0x5555, 0xffff, 0, sums.0);
+    t = under(t, c, b"pn ffff pm 5555", 0xffff, 0x5555, 0, sums.0);
     t = under(t, c, b"pn aaaa pm ffff", 0xaaaa, 0xffff, 0, 0);
     t = under(t, c, b"pn ffff pm aaaa", 0xffff, 0xaaaa, 0, 0);
-    t = under(t, c, b"pn 0453 pm ffff", 0x0453, 0xffff, 0, 0x2d);
-    t = under(t, c, b"pn 0453 pm ffff", 0x0453, 0xffff, row1, 0xf);
-    under(t, c, b"pn ffff pm 0453", 0xffff, 0x0453, 8, 0xf)
+    t = under(t, c, b"pn 0453 pm ffff", 0x0453, 0xffff, 0, sums.1);
+    t = under(t, c, b"pn 0453 pm ffff", 0x0453, 0xffff, row1, sums.2);
+    under(t, c, b"pn ffff pm 0453", 0xffff, 0x0453, col1, sums.2)
 }
 
 // One predicate empty: no byte of the 1,024 changes.
@@ -115,7 +129,7 @@ fn one_more(c: Case, za: &mut [u8]) {
 }
 
 // All ones plus 1 is 0, and 0 minus 1 is all ones again; no other byte of ZA changes.
-fn wraps(t: Tally, c: Case, size: usize, ones: u64) -> Tally {
+pub(crate) fn wraps(t: Tally, c: Case, size: usize, ones: u64) -> Tally {
     let mut t = t;
     let mut za = [0xff; 1024];
     one_more(c, &mut za);

@@ -82,31 +82,30 @@ fn one_sign64(t: Tally, c: Case, byte: usize) -> Tally {
     )
 }
 
-fn all_ff(t: Tally, c: Case, byte: usize, expected: u64) -> Tally {
+pub(crate) fn all_ff(t: Tally, c: Case, byte: usize, expected: u64) -> Tally {
     after(t, c, b"all ff", &[0xff; 1024], byte, expected)
 }
 
-fn ff_by_2(t: Tally, c: Case, byte: usize, expected: u64) -> Tally {
+pub(crate) fn ff_by_2(t: Tally, c: Case, byte: usize, expected: u64) -> Tally {
     let mut z = [0xff; 1024];
     bench::set_row(&mut z, c.vb, bench::second_register(c), 2, 2);
     after(t, c, b"ff by 02", &z, byte, expected)
 }
 
 // First source 0, 1, 2, .., second ones: 4·row + k over k is 16·row + 6; the other way round 16·col + 6; both ramps
-// (4·row + k)(4·col + k) over k: 64·row·col + 24·row + 24·col + 14.
+// (4·row + k)(4·col + k) over k: 64·row·col + 24·row + 24·col + 14. Of two products, 4·row + 1, 4·col + 1 and
+// 8·row·col + 2·row + 2·col + 1.
 pub(crate) fn ramp(t: Tally, c: Case, byte: usize, first: u64, second: u64, both: u64) -> Tally {
     let mut t = t;
     let mut z = [0u8; 1024];
-    let wide = c.wide;
-    let odd = if wide { 0 } else { 1 };
     let n = bench::first_register(c);
     let m = bench::second_register(c);
-    bench::set_ramp(&mut z, c.vb, n, wide);
-    bench::set_row(&mut z, c.vb, m, 1, odd);
+    bench::set_ramp(&mut z, c, n);
+    bench::set_elements(&mut z, c, m, 1);
     t = after(t, c, b"ramp by ones", &z, byte, first);
-    bench::set_ramp(&mut z, c.vb, m, wide);
+    bench::set_ramp(&mut z, c, m);
     t = after(t, c, b"ramp by ramp", &z, byte, both);
-    bench::set_row(&mut z, c.vb, n, 1, odd);
+    bench::set_elements(&mut z, c, n, 1);
     after(t, c, b"ones by ramp", &z, byte, second)
 }
 

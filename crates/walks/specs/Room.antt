@@ -12,7 +12,7 @@ use Rattle.walks.specs.declared.cases.Kind.{Kind}
 -- a kind of updates that there is
 pub record GoodKind (kind : Kind) : Type 0 where
   pub length-legal : legal (kind .vb) ≡ true
-  pub shape : Shaped (kind .element) 4
+  pub shape : Shaped (kind .element) (kind .products)
 
 -- Z, P, and ZA three times: for either walk, and as it begins
 pub record Room (kind : Kind) (z p za plain start : List ℕ) : Type 0 where
@@ -32,7 +32,7 @@ pub record Updatable (vb : ℕ) (o : OuterProduct) (z p za : List ℕ) : Type 0 
 -- an outer product of the kind, on a tile and registers that there are
 pub record Drawn (kind : Kind) (o : OuterProduct) : Type 0 where
   pub element : o .element ≡ kind .element
-  pub products : o .products ≡ 4
+  pub products : o .products ≡ kind .products
   pub tile : o .tile .0 < kind .element
   pub first : GoodOperand (o .first)
   pub second : GoodOperand (o .second)

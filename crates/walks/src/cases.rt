@@ -12,10 +12,12 @@ use outer::Operand;
 use outer::OuterProduct;
 use outer::Predication;
 
-// Updates on vectors of vb bytes, to tile elements of `element` bytes, of the quarter-tile family or of the predicated one.
+// Updates on vectors of vb bytes, with so many products to a tile element of `element` bytes, of the quarter-tile family or of
+// the predicated one.
 pub struct Kind {
     pub vb: usize,
     pub element: usize,
+    pub products: usize,
     pub quarter: bool,
 }
 
@@ -35,6 +37,8 @@ pub(crate) fn write_kind(fd: i32, kind: Kind) {
     } else {
         io::write_all(fd, b", predicated, ");
     }
+    io::print_decimal(fd, kind.products as u64);
+    io::write_all(fd, b"-way, ");
     if kind.element == 8 {
         io::write_all(fd, b"64-bit");
     } else {
@@ -65,17 +69,22 @@ pub(crate) fn draw(
 
 // Its own for each kind of one length.
 fn seed_of(kind: Kind, n: u32) -> u32 {
-    let quarter = kind.quarter;
-    let seed = if kind.element == 8 {
-        std::num::wrapping_add_u32(n, 1000)
-    } else {
-        n
-    };
-    if quarter {
+    let seed = std::num::wrapping_add_u32(n, shape_seed(kind));
+    if kind.quarter {
         std::num::wrapping_add_u32(seed, 2000)
     } else {
         seed
     }
+}
+
+fn shape_seed(kind: Kind) -> u32 {
+    if kind.element == 8 {
+        return 1000;
+    }
+    if kind.products == 2 {
+        return 4000;
+    }
+    0
 }
 
 fn draw_alike(x: u32, fill: Fill, za: &mut [u8], plain: &mut [u8], start: &mut [u8]) -> u32 {
@@ -117,7 +126,7 @@ fn predicate_byte(quarters: u32, a: u8, b: u8) -> u8 {
 }
 
 fn outer_product(kind: Kind, n: u32, x: u32) -> OuterProduct
-    requires { ⌜ Shaped (kind .element) 4 ⌝ }
+    requires { ⌜ Shaped (kind .element) (kind .products) ⌝ }
     ensures { λ r. ⌜ Drawn kind r ⌝ }
 {
     let y = next(x);
@@ -125,12 +134,20 @@ fn outer_product(kind: Kind, n: u32, x: u32) -> OuterProduct
     let tile = high_bits(next(y)) as usize % element;
     OuterProduct {
         element,
-        products: 4,
+        products: kind.products,
         tile: Tile(tile as u32),
         first: source(x, kind.quarter, n / 8 % 2 == 1, n / 2 % 2 == 1),
-        second: source(y, kind.quarter, n / 16 % 2 == 1, n / 4 % 2 == 1),
+        second: source(y, kind.quarter, n / 16 % 2 == 1, second_unsigned(kind, n)),
         subtract: n % 2 == 1,
     }
+}
+
+// The 2-way forms have one sign for both sources.
+fn second_unsigned(kind: Kind, n: u32) -> bool {
+    if kind.products == 2 {
+        return n / 2 % 2 == 1;
+    }
+    n / 4 % 2 == 1
 }
 
 // Twelve of them: the lower ones come again after as many steps as ZA has bytes.

@@ -25,31 +25,38 @@ fn main() {
     write_tally(added(short, long));
 }
 
-// Both families at both widths.
+// Both families.
 fn tally_at(vb: usize) -> Tally
     requires { ⌜ legal vb ≡ true ⌝ }
 {
-    let narrow = tally_of(Kind {
+    let predicated = tally_family(vb, false);
+    let quarter = tally_family(vb, true);
+    added(predicated, quarter)
+}
+
+// Every shape that there is.
+fn tally_family(vb: usize, quarter: bool) -> Tally
+    requires { ⌜ legal vb ≡ true ⌝ }
+{
+    let bytes = tally_of(Kind {
         vb,
         element: 4,
-        quarter: false,
+        products: 4,
+        quarter,
     });
-    let wide = tally_of(Kind {
+    let halves = tally_of(Kind {
         vb,
         element: 8,
-        quarter: false,
+        products: 4,
+        quarter,
     });
-    let narrow_quarter = tally_of(Kind {
+    let two_way = tally_of(Kind {
         vb,
         element: 4,
-        quarter: true,
+        products: 2,
+        quarter,
     });
-    let wide_quarter = tally_of(Kind {
-        vb,
-        element: 8,
-        quarter: true,
-    });
-    added(added(narrow, wide), added(narrow_quarter, wide_quarter))
+    added(added(bytes, halves), two_way)
 }
 
 // Makes room for Z, P and ZA: for either walk, and as it begins.

@@ -7,7 +7,7 @@ use libc::STDIN_FILENO;
 use libc::STDOUT_FILENO;
 use text::Printed;
 
-const ALL_FEATURES: u32 = 7;
+const ALL_FEATURES: u32 = 15;
 
 // Document 01's numbers of the refusals that a word of the list can get.
 const UNLISTED: u32 = 7;

@@ -12,8 +12,8 @@ pub struct Bench {
     pub vb: usize,
 }
 
-/// A source as signed numbers: the four elements that meet each row or column of the tile.
-type Fours = Vec<[i32; 4]>;
+/// A source as signed numbers: the K elements that meet each row or column of the tile.
+type Groups<const K: usize> = Vec<[i32; K]>;
 
 /// Executes one word, or refuses it by 1 to 5 or 7 to 10.
 pub fn execute(bench: Bench, z: &[u8], p: &[u8], za: &mut [u8], word: u32) -> Result<(), u32> {
@@ -40,7 +40,7 @@ pub fn run(bench: Bench, z: &[u8], p: &[u8], za: &mut [u8], words: &[u32]) -> (u
 /// Refusals 1 to 5, which no word has a part in.
 fn check(bench: Bench, z: &[u8], p: &[u8], za: &[u8]) -> Result<(), u32> {
     let vb = bench.vb;
-    if bench.flags > 7 {
+    if bench.flags > 15 {
         Err(1)
     } else if ![16, 32, 64, 128, 256].contains(&vb) {
         Err(2)
@@ -65,8 +65,11 @@ fn step(bench: Bench, z: &[u8], p: &[u8], za: &mut [u8], word: u32) -> Result<()
         return Err(10);
     }
     match instruction {
-        Instruction::Outer(op) if op.element_bytes == 4 => update::<4>(op, z, p, za, bench.vb),
-        Instruction::Outer(op) => update::<8>(op, z, p, za, bench.vb),
+        Instruction::Outer(op) => match (op.element_bytes, op.products) {
+            (4, 4) => update::<4, 4>(op, z, p, za, bench.vb),
+            (4, _) => update::<4, 2>(op, z, p, za, bench.vb),
+            _ => update::<8, 4>(op, z, p, za, bench.vb),
+        },
         Instruction::Zero { mask } => clear(mask, za, bench.vb),
     }
     Ok(())
@@ -81,23 +84,26 @@ fn clear(mask: u8, za: &mut [u8], vb: usize) {
     }
 }
 
-/// Reads the sources of an outer product and adds their products to its tile, whose elements have E bytes.
-fn update<const E: usize>(op: OuterProduct, z: &[u8], p: &[u8], za: &mut [u8], vb: usize) {
+/// Reads the sources of an outer product and adds their products to its tile, K to each element of E bytes.
+fn update<const E: usize, const K: usize>(op: OuterProduct, z: &[u8], p: &[u8], za: &mut [u8], vb: usize) {
     let vectors = |n: u32, count: usize| &z[n as usize * vb..][..count * vb];
     let (mut first, second) = match op.sources {
         Sources::Predicated { pn, pm, zn, zm } => (
-            fours::<E>(vectors(zn, 1), op.first_unsigned, |byte| is_set(p, pn, byte, vb)),
-            fours::<E>(vectors(zm, 1), op.second_unsigned, |byte| is_set(p, pm, byte, vb)),
+            groups::<E, K>(vectors(zn, 1), op.first_unsigned, |byte| is_set(p, pn, byte, vb)),
+            groups::<E, K>(vectors(zm, 1), op.second_unsigned, |byte| is_set(p, pm, byte, vb)),
         ),
         Sources::Quarter { first, second } => {
             let all = |Source { register, pair }| vectors(register, if pair { 2 } else { 1 });
-            (fours::<E>(all(first), op.first_unsigned, |_| true), fours::<E>(all(second), op.second_unsigned, |_| true))
+            (
+                groups::<E, K>(all(first), op.first_unsigned, |_| true),
+                groups::<E, K>(all(second), op.second_unsigned, |_| true),
+            )
         }
     };
     if op.subtract {
         first.iter_mut().flatten().for_each(|element| *element = -*element);
     }
-    add_products::<E>(&first, &second, op.tile as usize, za, vb);
+    add_products::<E, K>(&first, &second, op.tile as usize, za, vb);
 }
 
 /// Whether predicate `n` holds the bit of a vector's byte.
@@ -105,13 +111,13 @@ fn is_set(p: &[u8], n: u32, byte: usize, vb: usize) -> bool {
     p[n as usize * (vb / 8) + byte / 8] >> (byte % 8) & 1 == 1
 }
 
-/// The elements of a source, each of E/4 bytes; one is active by the bit of its first byte, and counts as 0 if it is not.
-fn fours<const E: usize>(source: &[u8], unsigned: bool, active: impl Fn(usize) -> bool) -> Fours {
+/// The elements of a source, each of E/K bytes; one is active by the bit of its first byte, and counts as 0 if it is not.
+fn groups<const E: usize, const K: usize>(source: &[u8], unsigned: bool, active: impl Fn(usize) -> bool) -> Groups<K> {
     let element = |at: usize| {
-        if active(at) { number(&source[at..at + E / 4], unsigned) } else { 0 }
+        if active(at) { number(&source[at..at + E / K], unsigned) } else { 0 }
     };
     let starts = (0..source.len()).step_by(E);
-    starts.map(|start| array::from_fn(|k| element(start + k * E / 4))).collect()
+    starts.map(|start| array::from_fn(|k| element(start + k * E / K))).collect()
 }
 
 /// An element of one or two bytes as a signed number.
@@ -125,8 +131,14 @@ fn number(element: &[u8], unsigned: bool) -> i32 {
     }
 }
 
-/// Adds to each element of the tile its four products. The column half picks the first register, the row half the second.
-fn add_products<const E: usize>(first: &[[i32; 4]], second: &[[i32; 4]], tile: usize, za: &mut [u8], vb: usize) {
+/// Adds to each element of the tile its K products. The column half picks the first register, the row half the second.
+fn add_products<const E: usize, const K: usize>(
+    first: &[[i32; K]],
+    second: &[[i32; K]],
+    tile: usize,
+    za: &mut [u8],
+    vb: usize,
+) {
     let dim = vb / E;
     for row in 0..dim {
         let line = &mut za[(row * E + tile) * vb..][..vb];
@@ -142,13 +154,13 @@ fn add_products<const E: usize>(first: &[[i32; 4]], second: &[[i32; 4]], tile: u
 }
 
 /// The register of a source that serves one half of the tile: its own of a pair, otherwise the only one.
-fn register(source: &[[i32; 4]], half: usize, dim: usize) -> &[[i32; 4]] {
+fn register<const K: usize>(source: &[[i32; K]], half: usize, dim: usize) -> &[[i32; K]] {
     &source[half * (source.len() - dim)..][..dim]
 }
 
-/// The sum of four products, none of which is cut.
-fn dot(first: &[i32; 4], second: &[i32; 4]) -> i64 {
-    (0..4).map(|k| i64::from(first[k]) * i64::from(second[k])).sum()
+/// The sum of K products, none of which is cut.
+fn dot<const K: usize>(first: &[i32; K], second: &[i32; K]) -> i64 {
+    (0..K).map(|k| i64::from(first[k]) * i64::from(second[k])).sum()
 }
 
 /// Adds to a little-endian element modulo 2 to the power of its bits.

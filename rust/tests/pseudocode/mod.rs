@@ -2,15 +2,18 @@
 //! against. Refusals are plain numbers here.
 
 mod execute;
+mod fields;
 mod text;
 
 pub use execute::{Bench, execute, run};
+pub use fields::describe;
 pub use text::print;
 
 /// The features, summed to flags.
 const SME: u32 = 1;
 const I16I64: u32 = 2;
 const MOP4: u32 = 4;
+const SME2: u32 = 8;
 
 /// An instruction; numbers out of range can be held, and are for `encode` to refuse.
 #[derive(Clone, Copy, Debug, PartialEq, Eq)]
@@ -19,10 +22,11 @@ pub enum Instruction {
     Zero { mask: u8 },
 }
 
-/// An outer product of either family on a tile with elements of 4 or 8 bytes.
+/// An outer product of either family on a tile with elements of 4 or 8 bytes, each of which gets 2 or 4 products.
 #[derive(Clone, Copy, Debug, PartialEq, Eq)]
 pub struct OuterProduct {
     pub element_bytes: u32,
+    pub products: u32,
     pub first_unsigned: bool,
     pub second_unsigned: bool,
     pub subtract: bool,
@@ -46,7 +50,7 @@ pub struct Source {
 
 /// The instruction of a word, or refusal 1, 7 or 8.
 pub fn decode(flags: u32, word: u32) -> Result<Instruction, u32> {
-    if flags > SME + I16I64 + MOP4 {
+    if flags > SME + I16I64 + MOP4 + SME2 {
         return Err(1);
     }
     let (instruction, needed) = listed(word).ok_or(7u32)?;
@@ -58,11 +62,16 @@ fn listed(word: u32) -> Option<(Instruction, u32)> {
     let fixed = (bits(word, 31, 25), bits(word, 23, 22));
     let low = (bits(word, 3, 3), bits(word, 2, 2));
     let quarter = (bits(word, 16, 16), bits(word, 15, 10), bits(word, 5, 5));
+    let one_sign = bits(word, 21, 21) == 0;
     match (fixed, quarter, low) {
-        ((0b1010000, 0b10), _, (0, 0)) => Some((outer(word, 4, predicated(word)), SME)),
-        ((0b1010000, 0b11), _, (0, _)) => Some((outer(word, 8, predicated(word)), I16I64)),
-        ((0b1000000, 0b00), (0, 0b100000, 0), (0, 0)) => Some((outer(word, 4, quarter_tile(word)), MOP4)),
-        ((0b1010000, 0b11), (0, 0b000000, 0), (1, _)) => Some((outer(word, 8, quarter_tile(word)), MOP4 + I16I64)),
+        ((0b1010000, 0b10), _, (0, 0)) => Some((outer(word, 4, 4, predicated(word)), SME)),
+        ((0b1010000, 0b11), _, (0, _)) => Some((outer(word, 8, 4, predicated(word)), I16I64)),
+        ((0b1010000, 0b10), _, (1, 0)) if one_sign => Some((outer(word, 4, 2, predicated(word)), SME2)),
+        ((0b1000000, 0b00), (0, 0b100000, 0), (0, 0)) => Some((outer(word, 4, 4, quarter_tile(word)), MOP4)),
+        ((0b1010000, 0b11), (0, 0b000000, 0), (1, _)) => Some((outer(word, 8, 4, quarter_tile(word)), MOP4 + I16I64)),
+        ((0b1000000, 0b00), (0, 0b100000, 0), (1, 0)) if one_sign => {
+            Some((outer(word, 4, 2, quarter_tile(word)), MOP4))
+        }
         _ if bits(word, 31, 8) == 0b110000000000100000000000 => {
             let mask = bits(word, 7, 0) as u8;
             Some((Instruction::Zero { mask }, SME))
@@ -76,12 +85,15 @@ fn bits(word: u32, high: u32, low: u32) -> u32 {
     (word << (31 - high)) >> (31 - high + low)
 }
 
-/// Adds the fields that all outer products have; the tile has two bits beside 32-bit elements, three beside 64-bit ones.
-fn outer(word: u32, element_bytes: u32, sources: Sources) -> Instruction {
+/// Adds the fields that all outer products have. A tile has two bits beside 32-bit elements, three beside 64-bit ones;
+/// of two products, one bit is the sign of both sources.
+fn outer(word: u32, element_bytes: u32, products: u32, sources: Sources) -> Instruction {
+    let second_sign = if products == 2 { 24 } else { 21 };
     Instruction::Outer(OuterProduct {
         element_bytes,
+        products,
         first_unsigned: bits(word, 24, 24) == 1,
-        second_unsigned: bits(word, 21, 21) == 1,
+        second_unsigned: bits(word, second_sign, second_sign) == 1,
         subtract: bits(word, 4, 4) == 1,
         tile: word % element_bytes,
         sources,
@@ -107,19 +119,20 @@ pub fn encode(instruction: Instruction) -> Result<u32, u32> {
         Instruction::Outer(_) => return Err(11),
         Instruction::Zero { mask } => return Ok(0xC008_0000 | u32::from(mask)),
     };
-    let signs = u32::from(op.first_unsigned) << 24 | u32::from(op.second_unsigned) << 21;
+    let second_sign = if op.products == 2 { 0 } else { u32::from(op.second_unsigned) << 21 };
+    let signs = u32::from(op.first_unsigned) << 24 | second_sign;
     let common = signs | u32::from(op.subtract) << 4 | op.tile;
-    let wide = op.element_bytes == 8;
+    let (predicated, quarter_tile) = match (op.element_bytes, op.products) {
+        (4, 4) => (0xA080_0000, 0x8000_8000),
+        (4, _) => (0xA080_0008, 0x8000_8008),
+        _ => (0xA0C0_0000, 0xA0C0_0008),
+    };
     Ok(match op.sources {
-        Sources::Predicated { pn, pm, zn, zm } => {
-            let line = if wide { 0xA0C0_0000 } else { 0xA080_0000 };
-            line | common | zm << 16 | pm << 13 | pn << 10 | zn << 5
-        }
+        Sources::Predicated { pn, pm, zn, zm } => predicated | common | zm << 16 | pm << 13 | pn << 10 | zn << 5,
         Sources::Quarter { first, second } => {
-            let line = if wide { 0xA0C0_0008 } else { 0x8000_8000 };
             let pairs = u32::from(second.pair) << 20 | u32::from(first.pair) << 9;
             let registers = ((second.register - 16) / 2) << 17 | (first.register / 2) << 6;
-            line | common | pairs | registers
+            quarter_tile | common | pairs | registers
         }
     })
 }
@@ -133,5 +146,10 @@ fn in_range(op: OuterProduct) -> bool {
             even && first.register <= 14 && (16..=30).contains(&second.register)
         }
     };
-    matches!(op.element_bytes, 4 | 8) && op.tile < op.element_bytes && sources
+    let shape = match (op.element_bytes, op.products) {
+        (4 | 8, 4) => true,
+        (4, 2) => op.first_unsigned == op.second_unsigned,
+        _ => false,
+    };
+    shape && op.tile < op.element_bytes && sources
 }

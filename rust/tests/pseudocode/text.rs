@@ -27,7 +27,7 @@ impl fmt::Display for Instruction {
 }
 
 impl fmt::Display for OuterProduct {
-    /// The name tells the signs, the family and the sum; the suffixes tell the width.
+    /// The name tells the signs, the family and the sum; the suffixes tell the widths.
     fn fmt(&self, f: &mut fmt::Formatter) -> fmt::Result {
         let signs = match (self.first_unsigned, self.second_unsigned) {
             (false, false) => "s",
@@ -36,7 +36,8 @@ impl fmt::Display for OuterProduct {
             (true, true) => "u",
         };
         let (tile, last) = (self.tile, if self.subtract { 's' } else { 'a' });
-        let (d, h) = if self.element_bytes == 8 { ('d', 'h') } else { ('s', 'b') };
+        let d = if self.element_bytes == 8 { 'd' } else { 's' };
+        let h = if self.element_bytes / self.products == 2 { 'h' } else { 'b' };
         match self.sources {
             Sources::Predicated { pn, pm, zn, zm } => {
                 write!(f, "{signs}mop{last} za{tile}.{d}, p{pn}/m, p{pm}/m, z{zn}.{h}, z{zm}.{h}")

@@ -20,7 +20,7 @@ impl Case {
         let lengths = if random.chance(16) { &WRONG } else { lengths };
         let vb = random.pick(lengths);
         let low = vb as u32 as usize;
-        let flags = if random.chance(8) { super::flags(random) } else { 7 };
+        let flags = if random.chance(8) { super::flags(random) } else { 15 };
         let bench = Bench { flags, streaming: !random.chance(12), za_on: !random.chance(12), vb };
         Case {
             bench,

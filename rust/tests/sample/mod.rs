@@ -15,13 +15,16 @@ pub use tally::Tally;
 use std::env;
 use std::ops::Range;
 
-/// The five lines of the encoding table: the bits that are fixed, and a mask of those that are free.
-pub const LINES: [(u32, u32); 5] = [
+/// The seven lines of the encoding table: the bits that are fixed, and a mask of those that are free. First the 4-way
+/// outer products and ZERO, then the 2-way outer products.
+pub const LINES: [(u32, u32); 7] = [
     (0xA080_0000, 0x013F_FFF3),
     (0xA0C0_0000, 0x013F_FFF7),
     (0x8000_8000, 0x013E_03D3),
     (0xA0C0_0008, 0x013E_03D7),
     (0xC008_0000, 0x0000_00FF),
+    (0xA080_0008, 0x011F_FFF3),
+    (0x8000_8008, 0x011E_03D3),
 ];
 
 /// One seed for each case. To repeat a case, set BIRDAGHOL_SEED to the seed that its failure shows; it then comes first.
@@ -33,7 +36,12 @@ pub fn seeds(count: u64) -> Range<u64> {
 
 /// A word of some line of the table, its fields random.
 pub fn listed(random: &mut Random) -> u32 {
-    let (fixed, free) = random.pick(&LINES);
+    of_lines(random, &LINES)
+}
+
+/// A word of one of these lines, its fields random.
+pub fn of_lines(random: &mut Random, lines: &[(u32, u32)]) -> u32 {
+    let (fixed, free) = random.pick(lines);
     fixed | random.u32() & free
 }
 
@@ -56,5 +64,5 @@ pub fn word(random: &mut Random, good: u64) -> u32 {
 
 /// Flags, in and out of range.
 pub fn flags(random: &mut Random) -> u32 {
-    if random.chance(16) { random.u32() } else { random.below(10) as u32 }
+    if random.chance(16) { random.u32() } else { random.below(18) as u32 }
 }

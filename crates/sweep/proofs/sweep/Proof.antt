@@ -5,10 +5,10 @@ use Rattle.sweep.proofs.sweep.Statement.{statement}
 use Rattle.sweep.proofs.sweep.Tie as tie
 
 abbrev Inv-loop : tie.InvT-loop
-Inv-loop t₀ w₀ t w = w ≤ 0x100000000
+Inv-loop flags t₀ w₀ t w = w ≤ 0x100000000
 
 abbrev μ-loop : tie.MeasureT-loop
-μ-loop t₀ w₀ t w = 0x100000000 - w
+μ-loop flags t₀ w₀ t w = 0x100000000 - w
 
 pub sweep-spec : {M : Type 1} → statement M
 sweep-spec =

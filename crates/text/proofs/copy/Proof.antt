@@ -1,13 +1,13 @@
 -- `text::copy` meets its contract: after i turns the first i bytes of the text stand in the room. Assumes nothing.
-use mathlib.Core.Path.{_≡_, _∙_, refl, subst}
-use mathlib.Core.List.{List}
-use Prim.Native.Nat.{ℕ, suc, _-_, _≤_, _<_}
+use mathlib.Core.Path.{_≡_, _∙_, refl}
+use Prim.Native.Nat.{_-_, _≤_}
 use native.Mathlib.Numerals.{add-one}
 use native.Mathlib.Nat.{zero-add}
 use native.Mathlib.Omega.{arith}
 use borrow.Author.Needs.{needs}
-use lib.ListN.{length, length-set, set, getD}
-use lib.Seq.{paste, paste-zero, paste-suc}
+use lib.ListN.{length, length-set}
+use lib.Seq.{paste, paste-zero}
+use Rattle.text.proofs.Rooms.{paste-next}
 use Rattle.text.proofs.copy.Statement.{statement}
 use Rattle.text.proofs.copy.Tie as tie
 
@@ -20,18 +20,12 @@ abbrev μ-loop : tie.MeasureT-loop
 loop-holds : tie.Need-loop-holds Inv-loop μ-loop
 loop-holds c = let a = c .args in (omega arith, refl, paste-zero (a .room .now) 0 (a .text .now))
 
--- a store at i, in the words of `paste-suc`
-stored : (room text : List ℕ) (i : ℕ) → i < length room → i < length text → set (paste room 0 text i) i (getD text i 0) ≡ paste room 0 text (suc i)
-stored room text i h l =
-    subst (λ (n : ℕ). set (paste room 0 text i) n (getD text i 0) ≡ paste room 0 text (suc i)) (zero-add i)
-    (paste-suc room 0 text i 0 (omega arith) l)
-
 loop-again : tie.Need-loop-again Inv-loop μ-loop
 loop-again c =
     let a = c .before .before .before .args in
     let (h, l, e) = c .before .before .loop .inv in
     let i = c .before .before .loop .i in
-    (omega arith, simp length-set l, rw (e, add-one i) (stored (a .room .now) (a .text .now) i (omega arith) (omega arith)))
+    (omega arith, simp length-set l, rw (e, add-one i) (paste-next (a .room .now) (a .text .now) i (omega arith) (omega arith)))
 
 returns : tie.Need-returns Inv-loop μ-loop
 returns c =

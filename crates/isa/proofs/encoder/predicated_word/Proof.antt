@@ -1,14 +1,28 @@
 -- `isa::encoder::predicated_word` meets its contract: its sum is the row's word, which has 32 bits. Assumes nothing.
+use mathlib.Core.Path.{_≡_}
+use mathlib.Core.Bool.{not, _&&_}
+use Prim.Native.Nat.{_+_}
 use native.Mathlib.Omega.{arith}
-use Rattle.isa.specs.Table.{predicated64, fieldsFrom}
+use Rattle.isa.specs.Table.{predicated64, wordFor, fieldsFrom}
+use Rattle.isa.specs.declared.Instruction.{Instruction}
 use Rattle.isa.specs.declared.Instruction.the-variants.{Predicated}
 use Rattle.isa.proofs.Rows.{Fit}
-use Rattle.isa.proofs.Lines.{predicated-range}
+use Rattle.isa.proofs.Lines.{predicated-range, predicated-sum, bit-lt, u1-bit, word-described}
 use Rattle.isa.proofs.encoder.predicated_word.Statement.{statement}
 use Rattle.isa.proofs.encoder.predicated_word.Tie as tie
 
-fit : (c : tie.Start) → (let a = c .args in Fit predicated64 (fieldsFrom (Predicated (a .op) (a .tile) (a .pn) (a .pm) (a .zn) (a .zm))))
+abbrev described : tie.Start → Instruction
+described c = let a = c .args in Predicated (a .op) (a .tile) (a .pn) (a .pm) (a .zn) (a .zm)
+
+fit : (c : tie.Start) → Fit predicated64 (fieldsFrom (described c))
 fit c = let a = c .args in predicated-range (a .op) (a .tile) (a .pn) (a .pm) (a .zn) (a .zm) (c .pre)
+
+-- the sum is the row's word
+sum-is : (c : tie.After-by-shape) → c .by-shape .result + (c .before .before .operation-bits .result + c .before .predicated-bits .result) ≡ wordFor (described (c .before .before .before))
+sum-is c =
+    let i = described (c .before .before .before) in
+    let op = c .before .before .before .args .op in
+    omega (arith, predicated-sum op (fieldsFrom i), u1-bit op)
 
 pub predicated-word-spec : {M : Type 1} → statement M
 predicated-word-spec =
@@ -16,8 +30,7 @@ predicated-word-spec =
     (tie.spec
     (λ c κs. omega (arith, fit c))
     (λ c κs. omega (arith, fit (c .before)))
-    (λ c. omega (arith, fit (c .before .before)))
-    (λ c. omega (arith, fit (c .before .before .before)))
-    (λ c. omega (arith, fit (c .before .before .before)))
-    (λ c. rw (c .if1 .taken) (omega arith))
-    (λ c. rw (c .if1 .left) (omega arith)))
+    (λ c. let op = c .before .before .args .op in omega (arith, fit (c .before .before), bit-lt (op .u1 && not (op .«two_way»))))
+    (λ c κs. tt)
+    (λ c. record { fits = rw (sum-is c) (word-described (described (c .before .before .before)) (c .before .before .before .pre) .fits) })
+    sum-is)

@@ -1,6 +1,6 @@
 -- `outer::product::multiply` meets its contract: the shape says how large the factors are. Assumes nothing.
 use mathlib.Core.Path.{_≡_}
-use Prim.Native.Nat.{ℕ, _/_, _^_, _≤_}
+use Prim.Native.Nat.{ℕ, _^_, _≤_}
 use lib.IntN.{ℤ}
 use lib.Signed.{mag}
 use Rattle.outer.proofs.Shapes.{are-bytes, are-halves}
@@ -8,18 +8,18 @@ use Rattle.outer.proofs.Signed.{bytes-fit, bytes-cast, bytes-product, c
 use Rattle.outer.proofs.product.multiply.Statement.{statement}
 use Rattle.outer.proofs.product.multiply.Tie as tie
 
--- factors of a shape's source elements
-abbrev Small : ℕ → ℕ → ℤ → ℤ → Type 0
-Small E K x y = (mag x ≤ 256 ^ (E / K)) × (mag y ≤ 256 ^ (E / K))
+-- factors of source elements of B bytes
+abbrev Small : ℕ → ℤ → ℤ → Type 0
+Small B x y = (mag x ≤ 256 ^ B) × (mag y ≤ 256 ^ B)
 
-small-as : {E K F L : ℕ} (x y : ℤ) → (E ≡ F) × (K ≡ L) → Small E K x y → Small F L x y
-small-as x y e h = rw (e .0, e .1) at h
+small-as : {B C : ℕ} (x y : ℤ) → B ≡ C → Small B x y → Small C x y
+small-as x y e h = rw e at h
 
 module _ (s : tie.Start) where
-  bytes : s .args .e ≡ s .args .k → Small 4 4 (s .args .x) (s .args .y)
+  bytes : s .args .e ≡ s .args .k → Small 1 (s .args .x) (s .args .y)
   bytes e = small-as (s .args .x) (s .args .y) (are-bytes (s .pre .0) e) (s .pre .1)
 
-  halves : (s .args .e ≡ s .args .k → ⊥) → Small 8 4 (s .args .x) (s .args .y)
+  halves : (s .args .e ≡ s .args .k → ⊥) → Small 2 (s .args .x) (s .args .y)
   halves d = small-as (s .args .x) (s .args .y) (are-halves (s .pre .0) d) (s .pre .1)
 
 pub multiply-spec : {M : Type 1} → statement M

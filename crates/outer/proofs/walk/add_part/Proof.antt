@@ -8,7 +8,7 @@ use lib.IntN.{ℤ}
 use Rattle.outer.specs.Products.{registerAt, Shaped}
 use Rattle.outer.specs.Walks.{Fetched, Part, planeDot, Added, AddedIn}
 use Rattle.outer.proofs.Progress.{lent}
-use Rattle.outer.proofs.Shapes.{shape, of-eight, of-four, shaped-as, on-tile, looked-up}
+use Rattle.outer.proofs.Shapes.{shape, of-eight, of-two, of-neither, shaped-as, on-tile, looked-up}
 use Rattle.outer.proofs.Parts.{part, part-done, part-as, added-as}
 use Rattle.outer.proofs.walk.add_part.Statement.{statement}
 use Rattle.outer.proofs.walk.add_part.Tie as tie
@@ -50,17 +50,24 @@ module _ (c : tie.After-fetch) where
         (lent (on-tile (q .0) (q .1 .0)) (a .za .now) (q .1 .1 .0) (λ i. omega (arith, c .before .before .before .before .before .slice-known .given i)))
         (added-as (a .vb) (a .o .tile .0) (a .row) (a .from) (a .to) xs (a .y .now) (a .za .now) za same d)
 
+-- where the shape is told, and which it is
 abbrev eight : tie.Then1 → tie.After-fetch
 eight c = c .before .before .before
 
-abbrev four : tie.Else1 → tie.After-fetch
-four c = c .before .before .before
+abbrev two : tie.Then2 → tie.After-fetch
+two c = c .before .before .before .before .before
 
-shape64 : (c : tie.Then1) → let o = entry (eight c) .args .o in (o .element ≡ 8) × (o .products ≡ 4)
-shape64 c = of-eight (entry (eight c) .pre .0) (c .if1 .taken)
+abbrev neither : tie.Else2 → tie.After-fetch
+neither c = c .before .before .before .before .before
 
-shape32 : (c : tie.Else1) → let o = entry (four c) .args .o in (o .element ≡ 4) × (o .products ≡ 4)
-shape32 c = of-four (entry (four c) .pre .0) (c .if1 .left)
+shape-of-eight : (c : tie.Then1) → let o = entry (eight c) .args .o in (o .element ≡ 8) × (o .products ≡ 4)
+shape-of-eight c = of-eight (entry (eight c) .pre .0) (c .if1 .taken)
+
+shape-of-two : (c : tie.Then2) → let o = entry (two c) .args .o in (o .element ≡ 4) × (o .products ≡ 2)
+shape-of-two c = of-two (entry (two c) .pre .0) (c .if2 .taken)
+
+shape-of-neither : (c : tie.Else2) → let o = entry (neither c) .args .o in (o .element ≡ 4) × (o .products ≡ 4)
+shape-of-neither c = of-neither (entry (neither c) .pre .0) (c .before .before .if1 .left) (c .if2 .left)
 
 pub add-part-spec : {M : Type 1} → statement M
 add-part-spec =
@@ -72,10 +79,14 @@ add-part-spec =
     (λ c. search needs)
     (λ c κs. let r = c .before in let q = called r .pre in (q .0, (q .1 .0, (register r .1, q .1 .1 .1 .0 .0, refl))))
     (λ c. search needs)
-    (λ c κs. let t = c .before .before in asks (eight t) (shape64 t))
+    (λ c κs. let t = c .before .before in asks (eight t) (shape-of-eight t))
     (λ c. search needs)
-    (λ c. let t = c .before .before .before .before .before in done (eight t) (shape64 t) _ (c .before .before .add-columns .ensures))
+    (λ c. let t = c .before .before .before .before .before in done (eight t) (shape-of-eight t) _ (c .before .before .add-columns .ensures))
     (λ c. search needs)
-    (λ c κs. let t = c .before .before in asks (four t) (shape32 t))
+    (λ c κs. let t = c .before .before in asks (two t) (shape-of-two t))
     (λ c. search needs)
-    (λ c. let t = c .before .before .before .before .before in done (four t) (shape32 t) _ (c .before .before .add-columns2 .ensures)))
+    (λ c. let t = c .before .before .before .before .before in done (two t) (shape-of-two t) _ (c .before .before .add-columns2 .ensures))
+    (λ c. search needs)
+    (λ c κs. let t = c .before .before in asks (neither t) (shape-of-neither t))
+    (λ c. search needs)
+    (λ c. let t = c .before .before .before .before .before in done (neither t) (shape-of-neither t) _ (c .before .before .add-columns3 .ensures)))

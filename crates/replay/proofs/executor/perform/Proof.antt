@@ -5,7 +5,7 @@ use Rattle.isa.specs.Table.{inRange}
 use Rattle.replay.specs.Machine.{Machine, on}
 use Rattle.replay.specs.Claims.{BenchPasses}
 use Rattle.replay.proofs.Tests.{machine-passes}
-use Rattle.replay.proofs.Ready.{shaped, predicated-ready, quarter-ready}
+use Rattle.replay.proofs.Ready.{predicated-ready, quarter-ready}
 use Rattle.replay.proofs.executor.perform.Statement.{statement}
 use Rattle.replay.proofs.executor.perform.Tie as tie
 
@@ -20,10 +20,8 @@ update-requires c κs =
     let i = c .before .before .before in
     let g = i .i .given .0 in
     let s = i .before .before .before .before .before in
-    rw (c .before .predicated-outer .ensures) (
-      shaped (g .0),
-      (predicated-ready (machine s) (passes s) (g .0) (g .1 .0) _ _ _ _ (sym (ap inRange (i .i .given .1)) ∙ s .pre .1), passes s .za-size),
-    )
+    let (h, r) = predicated-ready (machine s) (passes s) (g .0) (g .1 .0) _ _ _ _ (sym (ap inRange (i .i .given .1)) ∙ s .pre .1) in
+    rw (c .before .predicated-outer .ensures) (h, (r, passes s .za-size))
 
 quarter-outer-requires : tie.Need-quarter-outer-requires
 quarter-outer-requires c κs =
@@ -35,10 +33,9 @@ update-requires-2 c κs =
     let i = c .before .before .before in
     let g = i .i2 .given .0 in
     let s = i .before .before .before .before .before in
-    rw (c .before .quarter-outer .ensures) (
-      shaped (g .0),
-      (quarter-ready (machine s) (passes s) (g .0) (g .1 .0) (g .1 .1 .0) (g .1 .1 .1 .0) (sym (ap inRange (i .i2 .given .1)) ∙ s .pre .1), passes s .za-size),
-    )
+    let (h, r) =
+    quarter-ready (machine s) (passes s) (g .0) (g .1 .0) (g .1 .1 .0) (g .1 .1 .1 .0) (sym (ap inRange (i .i2 .given .1)) ∙ s .pre .1) in
+    rw (c .before .quarter-outer .ensures) (h, (r, passes s .za-size))
 
 clear-tiles-requires : tie.Need-clear-tiles-requires
 clear-tiles-requires c κs =

@@ -8,7 +8,7 @@ use borrow.Author.Needs.{needs}
 use borrow.Author.Tests.{not-false}
 use Rattle.storage.specs.Sizes.{legal}
 use Rattle.storage.proofs.Sizes.{Length, legal-length}
-use Rattle.outer.specs.Products.{Shaped, Ready}
+use Rattle.outer.specs.Products.{Ready}
 use Rattle.updates.proofs.bench.run_guarded.Statement.{statement}
 use Rattle.updates.proofs.bench.run_guarded.Tie as tie
 
@@ -27,29 +27,26 @@ mul-if4 c = let l = size (c .before .before) in omega (arith, mul-le-mul (l .mos
 -- the tests passed and the outer product made
 module _ (c : tie.After-outer-product) where
   abbrev passed : tie.Else4
-  passed = c .before .before
+  passed = c .before
 
   abbrev legal-here : tie.Else1
   legal-here = passed .before .before .before
 
-  shaped : let o = c .outer-product .result in Shaped (o .element) (o .products)
-  shaped = let e = c .outer-product .ensures in rw (e .0, e .1) (c .before .element-bytes .ensures)
-
-  ready : let a = start legal-here .args in a .c .tile < c .before .element-bytes .result
-      → let o = c .outer-product .result in Ready (o .element) (a .c .vb) o (a .z .now) (a .p .now)
+  ready : let a = start legal-here .args in let o = c .outer-product .result in a .c .tile < o .element
+      → Ready (o .element) (a .c .vb) o (a .z .now) (a .p .now)
   ready h =
       let e = c .outer-product .ensures in
       record {
         length-legal = is-legal legal-here;
         z-size = passed .before .before .if2 .left;
         p-size = passed .before .if3 .left;
-        tile = rw (e .0, e .2) h;
-        first = e .3;
-        second = e .4;
+        tile = rw (e .1) h;
+        first = e .2;
+        second = e .3;
       }
 
 update-requires : tie.Need-update-requires
-update-requires c κs = let o = c .before .before .before in (shaped o, (ready o (c .before .if5 .taken), passed o .if4 .left))
+update-requires c κs = let o = c .before .before .before .before in (o .outer-product .ensures .0, (ready o (c .before .if5 .taken), passed o .if4 .left))
 
 pub run-guarded-spec : {M : Type 1} → statement M
 run-guarded-spec =
@@ -63,7 +60,6 @@ run-guarded-spec =
     (λ c. search needs)
     mul-if4
     (λ c. search needs)
-    (λ c κs. search needs)
     (λ c κs. search needs)
     (λ c. search needs)
     update-requires
