@@ -64,7 +64,7 @@ impl fmt::Display for Refusal {
             Refusal::StreamingOff => "an outer product needs streaming mode on",
             Refusal::ZaOff => "the word needs ZA on",
             Refusal::OutOfRange => "a field is out of range",
-            Refusal::Room => "the room is shorter than the text",
+            Refusal::Room => "the room is too short",
         })
     }
 }

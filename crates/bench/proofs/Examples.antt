@@ -1,4 +1,4 @@
--- The marked examples come out as they say, by computation. Assumes nothing.
+-- The marked examples, and those of the 2-way forms, come out as they say, by computation. Assumes nothing.
 use mathlib.Core.Path.{_≡_, refl}
 use lib.ListN.{length}
 use Rattle.isa.specs.Answers.{describe, missing, decodeOf}
@@ -11,11 +11,15 @@ use Rattle.storage.specs.Tile.{start, element, addAt, addTo, clearAt, clear}
 use Rattle.outer.specs.Products.{product, dot}
 use Rattle.replay.specs.Execution.{refusalOf, after}
 use Rattle.replay.specs.Lists.{played}
-use Rattle.bench.specs.Examples.{examples, answered}
+use Rattle.bench.specs.Examples.{examples, twoWayExamples, answered}
 
 pub examples-hold : answered examples ≡ examples
 unfolding printOf roomAfter textOf describe missing spelling decodeOf start element byteOf word bitAt modZ plus tabulate change addAt addTo clearAt clear product dot refusalOf after played
 examples-hold = refl
+
+pub two-way-examples-hold : answered twoWayExamples ≡ twoWayExamples
+unfolding describe missing start element byteOf word bitAt modZ plus tabulate change addAt addTo product dot refusalOf after played
+two-way-examples-hold = refl
 
 pub twelve : length examples ≡ 12
 twelve = refl

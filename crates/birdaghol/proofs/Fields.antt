@@ -1,32 +1,28 @@
 -- What describe answers and leaves, by what decode answers, and that the numbers encode to the word again. Assumes nothing.
 use mathlib.Core.Path.{_≡_, _∙_, sym, refl, ap}
 use mathlib.Core.Bool.{Bool, true, false, cond}
-use mathlib.Core.List.{List, [], _∷_, _++_}
+use mathlib.Core.List.{List, _++_}
 use mathlib.Core.Option.{none, some}
 use Prim.Native.Nat.{ℕ, _<_, _^_}
 use native.Mathlib.Omega.{arith}
 use lib.Dec.{eqb, ltb}
-use lib.ListN.{length, drop}
-use lib.Seq.{drop-append-seam}
-use borrow.Author.Tests.{ltb-true, ltb-false}
-use Rattle.isa.specs.Refusals.{number, firstFailure}
+use lib.ListN.{length, take, drop}
+use lib.Seq.{take-append-seam, drop-append-seam}
+use Rattle.isa.specs.Refusals.{number, refusalNumber, firstFailure}
 use Rattle.isa.specs.Table.{bit, one?, register, elementBytes, productsOf}
-use Rattle.isa.specs.Answers.{describe, decodeTests, decodeOf, decodeNumber}
+use Rattle.isa.specs.Answers.{describe, decodeOf}
 use Rattle.isa.specs.declared.Operation.{Operation}
 use Rattle.isa.specs.declared.Instruction.{Instruction}
 use Rattle.isa.specs.declared.Instruction.the-variants.{Predicated, Quarter, Zero}
 use Rattle.isa.specs.declared.Refusal.{Refusal}
 use Rattle.isa.specs.declared.Refusal.the-variants.{Room}
-use Rattle.isa.specs.declared.Decoded.{Decoded}
 use Rattle.isa.specs.declared.Decoded.the-variants.{Accepted, Refused as NotDecoded}
 use Rattle.isa.specs.declared.Encoded.the-variants.{Word}
-use Rattle.isa.proofs.Refusals.{failed-before, passed-before}
-use Rattle.isa.proofs.Answers.{decode-refused, decode-passed, encode-in-range}
+use Rattle.isa.proofs.Answers.{decode-passed, room-refused, room-passed, encode-in-range}
 use Rattle.isa.proofs.Lines.{one-bit, source-back}
 use Rattle.isa.proofs.Theorems.{described-is}
 use Rattle.text.specs.Printing.{filled}
-use Rattle.text.proofs.Theorems.{decode-number, Outcome, fits, short, refused}
-use Rattle.replay.specs.Execution.{outcome, outcomeNumber}
+use Rattle.text.proofs.Theorems.{Outcome, fits, short, refused}
 use Rattle.birdaghol.specs.Calls.{packed, sized, operation, packedEncoded, encodeCall}
 use Rattle.birdaghol.specs.Fields.{numbersOf, numbersIn, fieldCount, describeTests, describeCall, fieldsAfter, encodeNumbers}
 
@@ -39,12 +35,12 @@ numbers-length (Zero mask) = refl
 -- ---- by decode's answer
 module _ (flags w : ℕ) (i : Instruction) (p : decodeOf flags w ≡ Accepted i) where
   accepted-tests : (n : ℕ) → firstFailure (describeTests flags w n) ≡ cond (ltb n fieldCount) (some Room) none
-  accepted-tests n = passed-before (decodeTests flags w) (record { fails = ltb n fieldCount; gives = Room } ∷ []) (decode-passed flags w i p .0)
+  accepted-tests n = room-passed flags w n (length (numbersIn (describe w))) i p ∙ rw (decode-passed flags w i p .1, numbers-length i)
 
   pub call-accepted : (n : ℕ) → describeCall flags w n ≡ cond (ltb n fieldCount) (number Room) 0
   call-accepted n = rw (accepted-tests n) (go (ltb n fieldCount))
     where
-      go : (b : Bool) → outcomeNumber (outcome (cond b (some Room) none)) ≡ cond b (number Room) 0
+      go : (b : Bool) → refusalNumber (cond b (some Room) none) ≡ cond b (number Room) 0
       go true = refl
       go false = refl
 
@@ -56,14 +52,11 @@ module _ (flags w : ℕ) (i : Instruction) (p : decodeOf flags w ≡ Accepted i)
       go false = rw (numbers-length i)
 
 module _ (flags w : ℕ) (r : Refusal) (p : decodeOf flags w ≡ NotDecoded r) where
-  refused-tests : (n : ℕ) → firstFailure (describeTests flags w n) ≡ some r
-  refused-tests n = failed-before (decodeTests flags w) (record { fails = ltb n fieldCount; gives = Room } ∷ []) r (decode-refused flags w r p)
-
   pub call-refused : (n : ℕ) → describeCall flags w n ≡ number r
-  call-refused n = rw (refused-tests n)
+  call-refused n = rw (room-refused flags w n (length (numbersIn (describe w))) r p)
 
   pub fields-refused : (fields : List ℕ) → fieldsAfter flags w fields ≡ fields
-  fields-refused fields = rw (refused-tests (length fields))
+  fields-refused fields = rw (room-refused flags w (length fields) (length (numbersIn (describe w))) r p)
 
 -- ---- the numbers encode to the word again
 operation-again : (op : Operation)
@@ -99,39 +92,14 @@ pub record Described (w : ℕ) (numbers : List ℕ) : Type 0 where
   pub count : length numbers ≡ fieldCount
   pub encodes : w < 2 ^ 32 → (rest : List ℕ) → encodeNumbers (numbers ++ rest) ≡ packed w 0
 
-numbers-described : (flags w : ℕ) (i : Instruction) → decodeOf flags w ≡ Accepted i → Described w (numbersOf i)
-numbers-described flags w i p = record {
-  count = numbers-length i;
-  encodes =
-      λ h rest.
-      let (r, e) = described-is w i h (decode-passed flags w i p .1) in
-      encoded-again i rest ∙ ap packedEncoded (encode-in-range i r ∙ ap Word e);
-}
-
--- every call has one of the outcomes of putting the numbers into the fields
-abbrev pub Ends : ℕ → ℕ → List ℕ → Type 0
-Ends flags w fields =
-    let t = numbersIn (describe w) in
-    (n : ℕ) × Outcome (Described w t) t fields (decodeNumber flags w) (describeCall flags w (length fields)) n (fieldsAfter flags w fields)
-
-pub ends : (flags w : ℕ) (fields : List ℕ) → Ends flags w fields
-ends flags w fields = by-answer (decodeOf flags w) refl
-  where
-    by-room : (i : Instruction) (b : Bool) → ltb (length fields) fieldCount ≡ b → Described w (numbersOf i)
-        → (n : ℕ) × Outcome (Described w (numbersOf i)) (numbersOf i) fields 0 (cond b (number Room) 0) n (cond b fields (numbersOf i ++ drop fieldCount fields))
-    by-room i true q d = (0, short (rw (d .count) (ltb-true _ _ q)) d)
-    by-room i false q d =
-        let o : Outcome (Described w (numbersOf i)) (numbersOf i) fields 0 0 _ (numbersOf i ++ drop (length (numbersOf i)) fields) =
-        fits (rw (d .count) (ltb-false _ _ q)) d in
-        (_, rw (d .count) at o)
-
-    by-answer : (a : Decoded) → decodeOf flags w ≡ a → Ends flags w fields
-    by-answer (NotDecoded r) e =
-        let (h, l) = decode-number flags w r e in
-        (0, rw (call-refused flags w r e (length fields), fields-refused flags w r e fields, e) (refused h l))
-    by-answer (Accepted i) e =
-        rw (call-accepted flags w i e (length fields), fields-accepted flags w i e fields, decode-passed flags w i e .1, e)
-        (by-room i (ltb (length fields) fieldCount) refl (numbers-described flags w i e))
+pub numbers-described : (flags w : ℕ) (i : Instruction) → decodeOf flags w ≡ Accepted i → Described w (numbersIn (describe w))
+numbers-described flags w i p =
+    let d = decode-passed flags w i p .1 in
+    rw d
+    (record {
+      count = numbers-length i;
+      encodes = λ h rest. let (r, e) = described-is w i h d in encoded-again i rest ∙ ap packedEncoded (encode-in-range i r ∙ ap Word e);
+    })
 
 -- ---- what is left of such an outcome
 module _ {w : ℕ} {t fields : List ℕ} where
@@ -141,6 +109,11 @@ module _ {w : ℕ} {t fields : List ℕ} where
       ∙ ap (λ (k : ℕ). drop k fields) (q .count)
   fields-rest (short h q) = refl
   fields-rest (refused h l) = refl
+
+  pub fields-numbers : {d p n : ℕ} {after : List ℕ} → Outcome (Described w t) t fields d p n after → p ≡ 0 → take fieldCount after ≡ t
+  fields-numbers (fits h q) e = ap (λ (k : ℕ). take k (t ++ drop (length t) fields)) (sym (q .count)) ∙ take-append-seam t (drop (length t) fields)
+  fields-numbers (short h q) e = absurd (omega arith)
+  fields-numbers (refused h l) e = absurd (omega arith)
 
   pub fields-encoded : {d p n : ℕ} {after : List ℕ} → Outcome (Described w t) t fields d p n after → w < 2 ^ 32 → p ≡ 0 → encodeNumbers after ≡ packed w 0
   fields-encoded (fits h q) l e = q .encodes l (drop (length t) fields)

@@ -10,6 +10,7 @@ use lib.Dec.{eqb}
 use lib.ListN.{length}
 use borrow.Author.Tests.{eqb-true, ltb-true, leb-true, eq-eqb, lt-ltb, le-leb}
 use Rattle.isa.specs.Table.{bit, isFormed, ranges, inRange}
+use Rattle.isa.specs.Answers.{describe}
 use Rattle.isa.specs.Claims.{OnlyWord}
 use Rattle.isa.specs.declared.Instruction.{Instruction}
 use Rattle.isa.specs.declared.Instruction.the-variants.{Zero}
@@ -20,7 +21,7 @@ use Rattle.isa.proofs.Refusals.{number-between}
 use Rattle.isa.proofs.Answers.{encode-out-of-range}
 use Rattle.isa.proofs.Theorems.{encodes}
 use Rattle.text.specs.Printing.{printOf, printedNumber}
-use Rattle.text.proofs.Theorems.{accepts, same, gives-12, known, unchanged}
+use Rattle.text.proofs.Theorems.{put-outcome, accepts, same, gives-12, known, unchanged}
 use Rattle.text.specs.declared.Printed.{Printed}
 use Rattle.text.specs.declared.Printed.the-variants.{Length, Refused as NotPrinted}
 use Rattle.replay.specs.Execution.{outcomeNumber}
@@ -29,9 +30,10 @@ use Rattle.replay.specs.Machine.{Machine}
 use Rattle.replay.specs.declared.Outcome.{Outcome}
 use Rattle.replay.specs.declared.Outcome.the-variants.{Done, Refused}
 use Rattle.birdaghol.specs.Calls.{packed, sized, operation, packedEncoded, encodeCall, askedPredicated, askedQuarter}
+use Rattle.birdaghol.specs.Fields.{numbersIn}
 use Rattle.birdaghol.specs.Claims.{Unpacks, PrintUnpacks, RunUnpacks, ElementSize, Formed, PredicatedFits, QuarterFits}
-use Rattle.birdaghol.specs.Claims.{EncodeAnswers, PredicatedAnswers, QuarterAnswers, ZeroAnswers, Describes}
-use Rattle.birdaghol.proofs.Fields.{ends, fields-rest, fields-encoded}
+use Rattle.birdaghol.specs.Claims.{EncodeAnswers, PredicatedAnswers, QuarterAnswers, ZeroAnswers, DescribeAnswers}
+use Rattle.birdaghol.proofs.Fields.{Described, numbers-described, fields-numbers, fields-rest, fields-encoded}
 
 unpacks : (v n : ℕ) → n < 256 → Unpacks (packed v n) v n
 unpacks v n h = record { value-is = omega arith; refusal-is = omega arith }
@@ -182,9 +184,10 @@ zero-answers mask =
     (λ s r. ltb-true mask 256 (every-all (ranges (Zero mask)) r .0))
 
 -- ---- describe
-pub describes : (flags w : ℕ) (fields : List ℕ) → Describes flags w fields
-describes flags w fields =
-    let (n, o) = ends flags w fields in
+pub describe-answers : (flags w : ℕ) (fields : List ℕ) → DescribeAnswers flags w fields
+describe-answers flags w fields =
+    let t = numbersIn (describe w) in
+    let o = put-outcome (Described w t) flags w t fields (numbers-described flags w) in
     record {
       accepts = (
         λ e. let (a, b) = accepts o .0 e in let k = known o a .count in (a, omega arith),
@@ -198,6 +201,7 @@ describes flags w fields =
         λ c. let k = known o (c .0) .count in gives-12 o .1 (c .0, omega arith),
       );
       refused = λ z. unchanged o z .0;
+      numbers = fields-numbers o;
       rest = fields-rest o;
       encoded = λ l e. subst (λ a. Unpacks a w 0) (sym (fields-encoded o l e)) (unpacks w 0 (omega arith));
     }

@@ -4,8 +4,8 @@ use mathlib.Core.Bool.{Bool}
 use mathlib.Core.Logic.{_↔_, _⊎_}
 use mathlib.Core.List.{List}
 use Prim.Native.Nat.{ℕ, _/_, _%_, _^_, _≤_, _<_}
-use lib.ListN.{length, drop}
-use Rattle.isa.specs.Answers.{decodeNumber}
+use lib.ListN.{length, take, drop}
+use Rattle.isa.specs.Answers.{describe, decodeNumber}
 use Rattle.isa.specs.Claims.{OnlyWord}
 use Rattle.isa.specs.declared.Instruction.{Instruction}
 use Rattle.isa.specs.declared.Instruction.the-variants.{Zero}
@@ -13,7 +13,7 @@ use Rattle.text.specs.Printing.{printNumber, printLength}
 use Rattle.replay.specs.Claims.{runNumber, runCount}
 use Rattle.replay.specs.Machine.{Machine}
 use Rattle.birdaghol.specs.Calls.{printCall, askedPredicated, askedQuarter, predicatedCall, quarterCall, zeroCall, runCall}
-use Rattle.birdaghol.specs.Fields.{fieldCount, describeCall, fieldsAfter, encodeNumbers}
+use Rattle.birdaghol.specs.Fields.{numbersIn, fieldCount, describeCall, fieldsAfter, encodeNumbers}
 
 -- the value is the answer divided by 256, the refusal what is left over
 pub record Unpacks (answer value refusal : ℕ) : Type 0 where
@@ -73,12 +73,13 @@ abbrev pub ZeroAnswers : ℕ → Type 0
 ZeroAnswers mask = EncodeAnswers (zeroCall mask) (Zero mask) (mask < 256)
 
 -- ---- describe: which number, what stands in the fields, and that encode takes them back
-pub record Describes (flags w : ℕ) (fields : List ℕ) : Type 0 where
+pub record DescribeAnswers (flags w : ℕ) (fields : List ℕ) : Type 0 where
   pub accepts : (describeCall flags w (length fields) ≡ 0) ↔ (decodeNumber flags w ≡ 0) × (fieldCount ≤ length fields)
   pub gives-1 : (describeCall flags w (length fields) ≡ 1) ↔ (decodeNumber flags w ≡ 1)
   pub gives-7 : (describeCall flags w (length fields) ≡ 7) ↔ (decodeNumber flags w ≡ 7)
   pub gives-8 : (describeCall flags w (length fields) ≡ 8) ↔ (decodeNumber flags w ≡ 8)
   pub gives-12 : (describeCall flags w (length fields) ≡ 12) ↔ (decodeNumber flags w ≡ 0) × (length fields < fieldCount)
   pub refused : (describeCall flags w (length fields) ≡ 0 → ⊥) → fieldsAfter flags w fields ≡ fields
+  pub numbers : describeCall flags w (length fields) ≡ 0 → take fieldCount (fieldsAfter flags w fields) ≡ numbersIn (describe w)
   pub rest : drop fieldCount (fieldsAfter flags w fields) ≡ drop fieldCount fields
   pub encoded : w < 2 ^ 32 → describeCall flags w (length fields) ≡ 0 → Unpacks (encodeNumbers (fieldsAfter flags w fields)) w 0

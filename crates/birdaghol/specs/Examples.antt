@@ -80,6 +80,8 @@ descriptions =
     record { word = 0xA0B1A873; numbers = 1 ∷ 4 ∷ 4 ∷ 0 ∷ 1 ∷ 1 ∷ 3 ∷ 2 ∷ 5 ∷ 3 ∷ 17 ∷ [] }
     -- umops za1.s, p5/m, p4/m, z14.h, z5.h
     ∷ record { word = 0xA18595D9; numbers = 1 ∷ 4 ∷ 2 ∷ 1 ∷ 1 ∷ 1 ∷ 1 ∷ 5 ∷ 4 ∷ 14 ∷ 5 ∷ [] }
+    -- usmopa za0.d, p7/m, p3/m, z6.h, z12.h
+    ∷ record { word = 0xA1CC7CC0; numbers = 1 ∷ 8 ∷ 4 ∷ 1 ∷ 0 ∷ 0 ∷ 0 ∷ 7 ∷ 3 ∷ 6 ∷ 12 ∷ [] }
     -- sumop4s za4.d, z12.h, { z18.h-z19.h }
     ∷ record { word = 0xA0F2019C; numbers = 2 ∷ 8 ∷ 4 ∷ 0 ∷ 1 ∷ 1 ∷ 4 ∷ 12 ∷ 0 ∷ 18 ∷ 1 ∷ [] }
     -- smop4s za3.s, { z14.h-z15.h }, z16.h

@@ -4,18 +4,16 @@ use mathlib.Core.Bool.{Bool, cond}
 use mathlib.Core.List.{List, [], _∷_, _++_}
 use mathlib.Core.Option.{Option, none, some}
 use Prim.Native.Nat.{ℕ}
-use lib.Dec.{eqb, ltb}
+use lib.Dec.{eqb}
 use lib.ListN.{length, getD}
-use Rattle.isa.specs.Refusals.{Test, firstFailure}
+use Rattle.isa.specs.Refusals.{refusalNumber, Test, firstFailure}
 use Rattle.isa.specs.Table.{bit, isPair, register, elementBytes, productsOf}
-use Rattle.isa.specs.Answers.{describe, decodeTests}
+use Rattle.isa.specs.Answers.{describe, roomTests}
 use Rattle.isa.specs.declared.Operation.{Operation}
 use Rattle.isa.specs.declared.Instruction.{Instruction}
 use Rattle.isa.specs.declared.Instruction.the-variants.{Predicated, Quarter, Zero}
-use Rattle.isa.specs.declared.Refusal.the-variants.{Room}
 use Rattle.text.specs.Printing.{filled}
-use Rattle.replay.specs.Execution.{outcome, outcomeNumber}
-use Rattle.birdaghol.specs.Calls.{predicatedCall, quarterCall, zeroCall}
+use Rattle.birdaghol.specs.Calls.{encodeCall, predicatedCall, quarterCall, zeroCall}
 
 -- element bytes, products, signs and subtract
 abbrev pub operationNumbers : Operation → List ℕ
@@ -38,17 +36,17 @@ fieldCount = 11
 
 -- tests 1, 7, 8, and 12: fewer places than numbers
 abbrev pub describeTests : ℕ → ℕ → ℕ → List Test
-describeTests flags w places = decodeTests flags w ++ (record { fails = ltb places fieldCount; gives = Room } ∷ [])
+describeTests flags w places = roomTests flags w places (length (numbersIn (describe w)))
 
 -- the answer, for so many places
 abbrev pub describeCall : ℕ → ℕ → ℕ → ℕ
-describeCall flags w places = outcomeNumber (outcome (firstFailure (describeTests flags w places)))
+describeCall flags w places = refusalNumber (firstFailure (describeTests flags w places))
 
 -- the numbers at the start, and those after them as they were; refused, all of them as they were
 abbrev pub fieldsAfter : ℕ → ℕ → List ℕ → List ℕ
 fieldsAfter flags w fields = filled (firstFailure (describeTests flags w (length fields))) (numbersIn (describe w)) fields
 
--- what the encode of their kind answers, given these numbers
+-- what the encode of their kind answers, given these numbers; another kind has none
 abbrev pub place : List ℕ → ℕ → ℕ
 place fields i = getD fields i 0
 
@@ -64,4 +62,6 @@ encodeQuarter f =
     quarterCall (place f 1) (place f 2) (truth f 3) (truth f 4) (truth f 5) (place f 6) (place f 7) (truth f 8) (place f 9) (truth f 10)
 
 abbrev pub encodeNumbers : List ℕ → ℕ
-encodeNumbers f = cond (eqb (place f 0) 1) (encodePredicated f) (cond (eqb (place f 0) 2) (encodeQuarter f) (zeroCall (place f 1)))
+encodeNumbers f =
+    cond (eqb (place f 0) 1) (encodePredicated f)
+    (cond (eqb (place f 0) 2) (encodeQuarter f) (cond (eqb (place f 0) 3) (zeroCall (place f 1)) (encodeCall none)))

@@ -16,6 +16,8 @@ const ZERO_ALL: u32 = 0xC008_00FF;
 
 const UNLISTED: u32 = 0x8100_0010;
 
+const SMOPA_TWO_WAY: u32 = 0xA080_0008;
+
 // umops za1.s, p5/m, p4/m, z14.h, z5.h
 const UMOPS_TWO_WAY: u32 = 0xA185_95D9;
 
@@ -23,10 +25,13 @@ fn main() {
     decodes();
     describes();
     prints();
-    encodes();
+    encodes_predicated();
+    encodes_quarters();
+    encodes_zero();
     let z = [0xFFu8; 512];
     let p = [0xFFu8; 32];
     executes(&z, &p);
+    executes_two_way(&z, &p);
     runs(&z, &p);
 }
 
@@ -34,6 +39,8 @@ fn decodes() {
     number(b"decode", birdaghol_decode(6, 0xA1C0_001F));
     number(b"decode, a feature off", birdaghol_decode(4, 0xA1C0_001F));
     number(b"decode, unlisted", birdaghol_decode(7, UNLISTED));
+    number(b"decode, 2-way", birdaghol_decode(8, UMOPS_TWO_WAY));
+    number(b"decode, without sme2", birdaghol_decode(7, UMOPS_TWO_WAY));
 }
 
 // Each kind, then the order of the refusals; a twelfth number stays.
@@ -82,7 +89,7 @@ fn prints() {
     io::write_all(STDOUT_FILENO, &room);
 }
 
-fn encodes() {
+fn encodes_predicated() {
     answer(
         b"sumops",
         birdaghol_encode_predicated(4, 4, false, true, true, 3, 2, 5, 3, 17),
@@ -111,6 +118,9 @@ fn encodes() {
         b"elements of 16 bytes",
         birdaghol_encode_predicated(16, 4, false, true, true, 3, 2, 5, 3, 17),
     );
+}
+
+fn encodes_quarters() {
     answer(
         b"usmop4s, pairs",
         birdaghol_encode_quarter(4, 4, true, false, true, 2, 10, true, 30, true),
@@ -127,6 +137,9 @@ fn encodes() {
         b"an odd source",
         birdaghol_encode_quarter(4, 4, true, false, true, 2, 11, true, 30, true),
     );
+}
+
+fn encodes_zero() {
     answer(b"zero", birdaghol_encode_zero(0x11));
 }
 
@@ -152,6 +165,22 @@ fn executes(z: &[u8], p: &[u8]) {
     number(
         b"ZA off",
         birdaghol_execute(7, true, false, 16, z, p, &mut za, SUMOPA),
+    );
+    bytes(&za);
+}
+
+// SMOPA of halfwords that are -1: two products of 1.
+fn executes_two_way(z: &[u8], p: &[u8]) {
+    let mut za = [0u8; 256];
+    number(
+        b"execute, 2-way",
+        birdaghol_execute(8, true, true, 16, z, p, &mut za, SMOPA_TWO_WAY),
+    );
+    bytes(&za);
+    let words = [ZERO_ALL, SMOPA_TWO_WAY];
+    answer(
+        b"run, 2-way",
+        birdaghol_run(9, true, true, 16, z, p, &mut za, &words),
     );
     bytes(&za);
 }

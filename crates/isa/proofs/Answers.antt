@@ -10,14 +10,15 @@ use borrow.Author.Tests.{lt-ltb, le-ltb, eq-eqb, ne-eqb}
 use Rattle.isa.specs.Row.{matches}
 use Rattle.isa.specs.Refusals.{firstFailure}
 use Rattle.isa.specs.Table.{Feature, flag, SME, I16I64, MOP4, SME2, on, lacking, allFlags, Entry, table, described, inRange, wordFor}
-use Rattle.isa.specs.Answers.{lookup, describedBy, neededBy, describe, missing, decodeTests, decided, decodeOf, encodeOf}
+use Rattle.isa.specs.Answers.{lookup, describedBy, neededBy, describe, missing, decodeTests, roomTests, decided, decodeOf, encodeOf}
 use Rattle.isa.specs.Claims.{AllOn}
 use Rattle.isa.specs.declared.Instruction.{Instruction}
 use Rattle.isa.specs.declared.Refusal.{Refusal}
-use Rattle.isa.specs.declared.Refusal.the-variants.{Flags, Unlisted, FeatureOff, OutOfRange}
+use Rattle.isa.specs.declared.Refusal.the-variants.{Flags, Unlisted, FeatureOff, OutOfRange, Room}
 use Rattle.isa.specs.declared.Decoded.{Decoded}
 use Rattle.isa.specs.declared.Decoded.the-variants.{Accepted, Refused as NotDecoded}
 use Rattle.isa.specs.declared.Encoded.the-variants.{Word, Refused as NotEncoded}
+use Rattle.isa.proofs.Refusals.{failed-before, passed-before}
 use Rattle.isa.proofs.Lookup.{lookup-found}
 
 -- ---- features
@@ -108,6 +109,13 @@ pub decode-passed : (flags w : ℕ) (i : Instruction) → decodeOf flags w ≡ A
     → (firstFailure (decodeTests flags w) ≡ none) × (describe w ≡ some i)
 unfolding decodeOf
 decode-passed flags w i = decided-accepted (firstFailure (decodeTests flags w)) (describe w) i
+
+-- and with a room for k of its bytes or numbers
+pub room-refused : (flags w n k : ℕ) (r : Refusal) → decodeOf flags w ≡ NotDecoded r → firstFailure (roomTests flags w n k) ≡ some r
+room-refused flags w n k r p = failed-before (decodeTests flags w) (record { fails = ltb n k; gives = Room } ∷ []) r (decode-refused flags w r p)
+
+pub room-passed : (flags w n k : ℕ) (i : Instruction) → decodeOf flags w ≡ Accepted i → firstFailure (roomTests flags w n k) ≡ cond (ltb n k) (some Room) none
+room-passed flags w n k i p = passed-before (decodeTests flags w) (record { fails = ltb n k; gives = Room } ∷ []) (decode-passed flags w i p .0)
 
 -- ---- the description of a word
 pub describe-found : {e : Entry} (w : ℕ) → List·Memᴰ e table → matches (e .row) w ≡ true → describe w ≡ some (described e w)

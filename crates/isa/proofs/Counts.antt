@@ -187,11 +187,15 @@ accepted-of flags w = go (isAccepted flags w) refl
 in-base : (e : Entry) → List·Memᴰ e baseTable → List·Memᴰ e table
 in-base e m = Memᴰ·append-left _ m
 
+all-counted : (flags : ℕ) → flags ≤ allFlags → countBelow (2 ^ 32) (isAccepted flags) ≡ wordsOf flags table
+all-counted flags h =
+    count-cong (2 ^ 32) (isAccepted flags) (isAcceptedOf table flags) (λ w l. accepted-of flags w)
+    ∙ words-counted flags h table (λ e m. m) table-apart
+
 pub counted : Counted
 counted =
     record {
+      by-rows = all-counted;
       of-base = words-counted 7 (lit≤ tt) baseTable in-base (every-all (apartness baseTable) refl);
-      of-all =
-          count-cong (2 ^ 32) (isAccepted 15) (isAcceptedOf table 15) (λ w l. accepted-of 15 w)
-          ∙ words-counted 15 (lit≤ tt) table (λ e m. m) table-apart;
+      of-all = all-counted 15 (lit≤ tt);
     }

@@ -1,6 +1,6 @@
 -- What decode and encode answer, by the table (document 01, "Encodings" and "Refusal numbers").
 use mathlib.Core.Bool.{Bool, true, false, not, cond}
-use mathlib.Core.List.{List, [], _∷_}
+use mathlib.Core.List.{List, [], _∷_, _++_}
 use mathlib.Core.Option.{Option, none, some}
 use Prim.Native.Nat.{ℕ}
 use lib.Dec.{eqb, ltb}
@@ -9,7 +9,7 @@ use Rattle.isa.specs.Refusals.{number, Test, firstFailure}
 use Rattle.isa.specs.Table.{Feature, Entry, table, allFlags, lacking, described, inRange, wordFor}
 use Rattle.isa.specs.declared.Instruction.{Instruction}
 use Rattle.isa.specs.declared.Refusal.{Refusal}
-use Rattle.isa.specs.declared.Refusal.the-variants.{Flags, Unlisted, FeatureOff, OutOfRange}
+use Rattle.isa.specs.declared.Refusal.the-variants.{Flags, Unlisted, FeatureOff, OutOfRange, Room}
 use Rattle.isa.specs.declared.Decoded.{Decoded}
 use Rattle.isa.specs.declared.Decoded.the-variants.{Accepted, Refused as NotDecoded}
 use Rattle.isa.specs.declared.Encoded.{Encoded}
@@ -53,6 +53,10 @@ listingTests flags w =
 
 abbrev pub decodeTests : ℕ → ℕ → List Test
 decodeTests flags w = flagsTest flags ∷ listingTests flags w
+
+-- and 12, where the word's k bytes or numbers are to go to a room of n
+abbrev pub roomTests : ℕ → ℕ → ℕ → ℕ → List Test
+roomTests flags w n k = decodeTests flags w ++ (record { fails = ltb n k; gives = Room } ∷ [])
 
 -- a refusal, or the description; the last line is there for form, as a word with no description fails its test
 abbrev pub decided : Option Refusal → Option Instruction → Decoded

@@ -3,10 +3,10 @@
 use mathlib.Core.Path.{_≡_}
 use mathlib.Core.Bool.{Bool, false, cond, _&&_, _||_}
 use mathlib.Core.List.{List, [], _∷_}
-use Prim.Native.Nat.{ℕ, zero, suc, _+_, _^_}
+use Prim.Native.Nat.{ℕ, zero, suc, _+_, _^_, _≤_}
 use lib.Dec.{eqb}
 use Rattle.isa.specs.Row.{fixed, field, Row, matches}
-use Rattle.isa.specs.Table.{bit, lacking, Entry, baseTable}
+use Rattle.isa.specs.Table.{bit, allFlags, lacking, Entry, baseTable, table}
 use Rattle.isa.specs.Answers.{decodeNumber}
 
 -- how many numbers below n pass a test
@@ -26,10 +26,6 @@ isOf (e ∷ es) w = matches (e .row) w || isOf es w
 abbrev pub isAcceptedOf : List Entry → ℕ → ℕ → Bool
 isAcceptedOf es flags w = isAccepted flags w && isOf es w
 
-pub record Counted : Type 0 where
-  pub of-base : countBelow (2 ^ 32) (isAcceptedOf baseTable 7) ≡ 6316288
-  pub of-all : countBelow (2 ^ 32) (isAccepted 15) ≡ 7368960
-
 -- ---- what the rows allow: a line that lacks no feature has a word for each value of its fields' bits
 abbrev pub freeBits : Row → ℕ
 freeBits [] = 0
@@ -39,3 +35,9 @@ freeBits (field n k ∷ r) = k + freeBits r
 abbrev pub wordsOf : ℕ → List Entry → ℕ
 wordsOf flags [] = 0
 wordsOf flags (e ∷ es) = cond (eqb (lacking flags (e .needs)) 0) (2 ^ freeBits (e .row)) 0 + wordsOf flags es
+
+-- ---- the counts: with any legal flags, and the papers' two
+pub record Counted : Type 0 where
+  pub by-rows : (flags : ℕ) → flags ≤ allFlags → countBelow (2 ^ 32) (isAccepted flags) ≡ wordsOf flags table
+  pub of-base : countBelow (2 ^ 32) (isAcceptedOf baseTable 7) ≡ 6316288
+  pub of-all : countBelow (2 ^ 32) (isAccepted 15) ≡ 7368960

@@ -2,7 +2,7 @@
 -- out as it says. The paper's marked examples are in crates/bench/specs/Examples.antt. Here are words of an independent
 -- disassembler: three for each row of the table that has two fields or more, in which every two of its fields differ
 -- somewhere, both signs stand alone and, where the row allows it, mixed, and both values of S, N and M occur; each with the
--- least flags that allow it.
+-- least flags that allow it; then words that are refused.
 use mathlib.Core.Bool.{Bool, true, false, cond}
 use mathlib.Core.List.{List, [], _∷_}
 use mathlib.Core.Option.{Option, none, some}
@@ -111,7 +111,7 @@ examples =
     ∷ record { flags = 4; word = 0x80128019; number = 0; is = aQuarter (smop sh subtracts) 1 (z 0) (zz 18) }
     -- umop4a za0.s, z6.h, z22.h
     ∷ record { flags = 4; word = 0x810680C8; number = 0; is = aQuarter (umop sh adds) 0 (z 6) (z 22) }
-    -- no 2-way word has sources of different signs, and no flag stands for SME2
+    -- no 2-way word has sources of different signs, and no other flag stands in for SME2's
     ∷ record { flags = 15; word = 0xA0A00008; number = 7; is = none }
     ∷ record { flags = 15; word = 0x80208008; number = 7; is = none }
     ∷ record { flags = 7; word = 0xA0800008; number = 8; is = none }

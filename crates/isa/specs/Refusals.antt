@@ -20,6 +20,11 @@ number ZaOff = 10
 number OutOfRange = 11
 number Room = 12
 
+-- 0 where there is none
+abbrev pub refusalNumber : Option Refusal → ℕ
+refusalNumber none = 0
+refusalNumber (some r) = number r
+
 -- a test that input may fail, and the refusal that it then gets
 pub record Test : Type 0 where
   pub fails : Bool

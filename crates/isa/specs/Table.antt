@@ -79,10 +79,6 @@ abbrev pub lacking : ℕ → List Feature → ℕ
 lacking flags [] = 0
 lacking flags (f ∷ fs) = cond (on flags f) 0 (flag f) + lacking flags fs
 
--- ---- a description from its fields
-abbrev pub one? : ℕ → Bool
-one? v = eqb v 1
-
 -- ---- the shapes that the table has: by the size of a tile element, and how many products come to it
 abbrev pub isWide : Shape → Bool
 isWide Bytes32 = false
@@ -99,6 +95,10 @@ abbrev pub secondSign : Shape → Name
 secondSign Bytes32 = u1
 secondSign Halves64 = u1
 secondSign Halves32 = u0
+
+-- ---- a description from its fields
+abbrev pub one? : ℕ → Bool
+one? v = eqb v 1
 
 abbrev pub operationOfFields : Shape → Fields → Operation
 operationOfFields s f =

@@ -40,14 +40,14 @@ half-some byte = lit< tt
 half-some half = lit< tt
 
 -- ---- the shapes
-pub record Shape (E K : ℕ) : Type 0 where
+pub record OfShape (E K : ℕ) : Type 0 where
   pub element : FourOrEight E
   pub source : ByteOrHalf (E / K)
   pub whole : K * (E / K) ≡ E
   pub some : 0 < K
   pub few : K ≤ 4
 
-pub shape : {E K : ℕ} → Shaped E K → Shape E K
+pub shape : {E K : ℕ} → Shaped E K → OfShape E K
 shape bytes32 = record { element = four; source = byte; whole = refl; some = lit< tt; few = lit≤ tt }
 shape halves64 = record { element = eight; source = half; whole = refl; some = lit< tt; few = lit≤ tt }
 shape halves32 = record { element = four; source = half; whole = refl; some = lit< tt; few = lit≤ tt }

@@ -76,7 +76,7 @@ pub data Shaped : ℕ → ℕ → Type 0 where
   halves64 : Shaped 8 4
   halves32 : Shaped 4 2
 
--- their least and their most: document 01's figures for four products; two of halfwords come to half of what four do
+-- bounds of what they come to, for any signs: document 01's figures for four products, and half of the halfwords' for two
 abbrev pub least : {E K : ℕ} → Shaped E K → ℤ
 least bytes32 = negℤ (pos 130560)
 least halves64 = negℤ (pos 8589803520)

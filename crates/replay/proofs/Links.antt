@@ -1,7 +1,7 @@
 -- Words as actions on ZA: an accepted outer product adds to its tile, a refused word is idle, and a word exchanged undoes it.
 -- Assumes nothing.
 use mathlib.Core.Path.{_≡_, refl, sym, ap, ap₂, _∙_, subst, fun-ext}
-use mathlib.Core.Bool.{Bool, true, false, false≢true, not, _&&_, cond}
+use mathlib.Core.Bool.{Bool, true, false, false≢true, _&&_, cond}
 use mathlib.Core.List.{List, [], _∷_, foldl, List·Mem}
 use mathlib.Core.Option.{Option, none, some}
 use Prim.Native.Nat.{ℕ, _%_, _^_, _<_}

@@ -4,7 +4,7 @@ use mathlib.Core.Bool.{Bool, true, false, false≢true, not, cond, _&&_}
 use Prim.Native.Nat.{_≤_, _<_}
 use native.Mathlib.Omega.{arith}
 use lib.Dec.{eqb}
-use borrow.Author.Tests.{ltb-true, leb-true}
+use borrow.Author.Tests.{ltb-true}
 use Rattle.isa.specs.Table.{bit, elementBytes, productsOf, register, isFormed, ranges, inRange}
 use Rattle.isa.specs.declared.Tile.{Tile}
 use Rattle.isa.specs.declared.Vector.{Vector}
@@ -14,6 +14,7 @@ use Rattle.isa.specs.declared.Source.{Source}
 use Rattle.isa.specs.declared.Source.the-variants.{One, Pair}
 use Rattle.isa.specs.declared.Instruction.the-variants.{Predicated, Quarter}
 use Rattle.isa.proofs.Tests.{every-all}
+use Rattle.isa.proofs.Lines.{quarter-range}
 use Rattle.outer.specs.Products.{Shaped, bytes32, halves64, halves32, GoodOperand, Ready}
 use Rattle.outer.specs.declared.Operand.{Operand}
 use Rattle.replay.specs.Operands.{governedOperand, halvesOperand, outerProduct}
@@ -37,13 +38,6 @@ governed-good v p unsigned h k = record { low = h; high = h; predication = omega
 halves-good : (s : Source) (unsigned : Bool) → register s ≤ 30 → GoodOperand (halvesOperand s unsigned)
 halves-good (One v) unsigned h = record { low = omega arith; high = omega arith; predication = tt }
 halves-good (Pair v) unsigned h = record { low = omega arith; high = omega arith; predication = tt }
-
--- the registers of a quarter-tile instruction in range
-pub quarter-registers : (op : Operation) (tile : Tile) (first second : Source) → inRange (Quarter op tile first second) ≡ true
-    → (register first ≤ 14) × (register second ≤ 30)
-quarter-registers op tile first second h =
-    let r = every-all (ranges (Quarter op tile first second)) h in
-    (leb-true _ _ (r .1 .1 .1 .0), leb-true _ _ (r .1 .1 .1 .1 .1 .1 .0))
 
 module _ (m : Machine) (fits : BenchPasses m) (op : Operation) (tile : Tile) where
   -- what an update asks
@@ -76,5 +70,5 @@ module _ (m : Machine) (fits : BenchPasses m) (op : Operation) (tile : Tile) whe
       → Updates (halvesOperand first (op .u0)) (halvesOperand second (op .u1))
   quarter-ready first second h =
       let r = every-all (ranges (Quarter op tile first second)) h in
-      let (f, s) = quarter-registers op tile first second h in
-      ready _ _ (r .0) (ltb-true _ _ (r .1 .0)) (halves-good first (op .u0) (omega arith)) (halves-good second (op .u1) s)
+      let q = quarter-range op tile first second h in
+      ready _ _ (r .0) (ltb-true _ _ (r .1 .0)) (halves-good first (op .u0) (omega arith)) (halves-good second (op .u1) (omega arith))

@@ -1,7 +1,7 @@
 -- What print answers and leaves, by what decode answers. Assumes nothing.
 use mathlib.Core.Path.{_≡_, _∙_, refl, subst}
 use mathlib.Core.Bool.{Bool, true, false, cond}
-use mathlib.Core.List.{List, [], _∷_, _++_}
+use mathlib.Core.List.{List, _++_}
 use mathlib.Core.Option.{none, some}
 use Prim.Native.Nat.{ℕ, suc, _≤_, _<_}
 use native.Mathlib.Nat.{zero-add}
@@ -11,13 +11,12 @@ use borrow.Author.Tests.{lt-ltb, le-ltb}
 use lib.ListN.{length, take, drop, set, getD}
 use lib.Seq.{paste, paste-suc}
 use Rattle.isa.specs.Refusals.{firstFailure}
-use Rattle.isa.specs.Answers.{decodeTests, decodeOf}
+use Rattle.isa.specs.Answers.{decodeOf}
 use Rattle.isa.specs.declared.Instruction.{Instruction}
 use Rattle.isa.specs.declared.Refusal.{Refusal}
 use Rattle.isa.specs.declared.Refusal.the-variants.{Room}
 use Rattle.isa.specs.declared.Decoded.the-variants.{Accepted, Refused as NotDecoded}
-use Rattle.isa.proofs.Refusals.{failed-before, passed-before}
-use Rattle.isa.proofs.Answers.{decode-refused, decode-passed}
+use Rattle.isa.proofs.Answers.{decode-passed, room-refused, room-passed}
 use Rattle.text.specs.Spelling.{spelling}
 use Rattle.text.specs.Put.{printedIn, filledWith}
 use Rattle.text.specs.Printing.{textOf, printed, filled, printTests, printOf, roomAfter}
@@ -46,9 +45,7 @@ accepted-text flags w i p = rw (decode-passed flags w i p .1)
 
 accepted-tests : (flags w n : ℕ) (i : Instruction) → decodeOf flags w ≡ Accepted i
     → firstFailure (printTests flags w n) ≡ cond (ltb n (length (spelling i))) (some Room) none
-accepted-tests flags w n i p =
-    passed-before (decodeTests flags w) (record { fails = ltb n (length (textOf w)); gives = Room } ∷ []) (decode-passed flags w i p .0)
-    ∙ rw (accepted-text flags w i p)
+accepted-tests flags w n i p = room-passed flags w n (length (textOf w)) i p ∙ rw (accepted-text flags w i p)
 
 pub print-accepted : (flags w n : ℕ) (i : Instruction) → decodeOf flags w ≡ Accepted i → printOf flags w n ≡ printedIn i n
 unfolding printOf
@@ -66,14 +63,10 @@ room-accepted flags w room i p = rw (accepted-tests flags w (length room) i p, a
     go true = refl
     go false = refl
 
-refused-tests : (flags w n : ℕ) (r : Refusal) → decodeOf flags w ≡ NotDecoded r → firstFailure (printTests flags w n) ≡ some r
-refused-tests flags w n r p =
-    failed-before (decodeTests flags w) (record { fails = ltb n (length (textOf w)); gives = Room } ∷ []) r (decode-refused flags w r p)
-
 pub print-refused : (flags w n : ℕ) (r : Refusal) → decodeOf flags w ≡ NotDecoded r → printOf flags w n ≡ Refused r
 unfolding printOf
-print-refused flags w n r p = rw (refused-tests flags w n r p)
+print-refused flags w n r p = rw (room-refused flags w n (length (textOf w)) r p)
 
-pub room-refused : (flags w : ℕ) (room : List ℕ) (r : Refusal) → decodeOf flags w ≡ NotDecoded r → roomAfter flags w room ≡ room
+pub unfilled : (flags w : ℕ) (room : List ℕ) (r : Refusal) → decodeOf flags w ≡ NotDecoded r → roomAfter flags w room ≡ room
 unfolding roomAfter
-room-refused flags w room r p = rw (refused-tests flags w (length room) r p)
+unfilled flags w room r p = rw (room-refused flags w (length room) (length (textOf w)) r p)

@@ -3,27 +3,26 @@ use mathlib.Core.Path.{_≡_, refl, subst}
 use mathlib.Core.Bool.{Bool, true, false, not, cond}
 use mathlib.Core.Logic.{_↔_}
 use mathlib.Core.List.{List, _++_}
-use mathlib.Core.Option.{none, some}
+use mathlib.Core.Option.{Option, none, some}
 use Prim.Native.Nat.{ℕ, _≤_, _<_}
 use native.Mathlib.Omega.{arith}
 use lib.Dec.{eqb, ltb}
 use lib.ListN.{length, drop, length-append, length-drop}
 use lib.Seq.{take-append-seam, drop-append-seam}
 use borrow.Author.Tests.{ltb-true, ltb-false}
-use Rattle.isa.specs.Refusals.{number}
+use Rattle.isa.specs.Refusals.{number, refusalNumber, firstFailure}
 use Rattle.isa.specs.Table.{allFlags}
-use Rattle.isa.specs.Answers.{describe, missing, absent, decodeOf, decodeNumber}
+use Rattle.isa.specs.Answers.{describe, missing, absent, roomTests, decodeOf, decodeNumber}
 use Rattle.isa.specs.declared.Instruction.{Instruction}
 use Rattle.isa.specs.declared.Refusal.{Refusal}
-use Rattle.isa.specs.declared.Refusal.the-variants.{Flags, Unlisted, FeatureOff}
+use Rattle.isa.specs.declared.Refusal.the-variants.{Flags, Unlisted, FeatureOff, Room}
 use Rattle.isa.specs.declared.Decoded.{Decoded}
 use Rattle.isa.specs.declared.Decoded.the-variants.{Accepted, Refused as NotDecoded}
-use Rattle.isa.proofs.Answers.{decode-refused}
-use Rattle.text.specs.Spelling.{spelling}
-use Rattle.text.specs.Put.{printedIn, filledWith}
-use Rattle.text.specs.Printing.{textOf, printedNumber, printedLength, printNumber, printLength, roomAfter}
+use Rattle.isa.proofs.Answers.{decode-refused, room-refused, room-passed}
+use Rattle.text.specs.Spelling.{Text}
+use Rattle.text.specs.Printing.{textOf, printTests, printed, printOf, filled, printedNumber, printedLength, printNumber, printLength, roomAfter}
 use Rattle.text.specs.Claims.{OfLength, Holds, Prints}
-use Rattle.text.proofs.Rooms.{accepted-text, print-accepted, room-accepted, print-refused, room-refused}
+use Rattle.text.proofs.Rooms.{accepted-text}
 use Rattle.text.proofs.Lengths.{line-between}
 
 -- decode refuses with 1, 7 or 8: with a number that a short room never gets
@@ -86,27 +85,47 @@ holds {t} {room} (fits h l) e =
 holds (short h l) e = absurd (omega arith)
 holds (refused h l) e = absurd (omega arith)
 
--- every print has one of them
-abbrev OutcomeOf : ℕ → ℕ → List ℕ → Type 0
-OutcomeOf flags w room =
-    let n = length room in
-    Outcome (OfLength 1 63 (textOf w)) (textOf w) room (decodeNumber flags w) (printNumber flags w n) (printLength flags w n) (roomAfter flags w room)
+-- how much is put
+abbrev pub putLength : Option Refusal → List ℕ → ℕ
+putLength none t = length t
+putLength (some r) t = 0
 
-outcome : (flags w : ℕ) (room : List ℕ) → OutcomeOf flags w room
-outcome flags w room = by-answer (decodeOf flags w) refl
-  where
-    by-room : (i : Instruction) (b : Bool) → ltb (length room) (length (spelling i)) ≡ b → OfLength 1 63 (spelling i)
-        → Outcome (OfLength 1 63 (spelling i)) (spelling i) room 0 (printedNumber (printedIn i (length room))) (printedLength (printedIn i (length room))) (filledWith i room)
-    by-room i true q l = rw q (short (ltb-true (length room) (length (spelling i)) q) l)
-    by-room i false q l = rw q (fits (ltb-false (length room) (length (spelling i)) q) l)
+-- every call that puts t has one of these outcomes
+module _ (Q : Type 0) (flags w : ℕ) (t room : List ℕ) (about : (i : Instruction) → decodeOf flags w ≡ Accepted i → Q) where
+  abbrev failure : Option Refusal
+  failure = firstFailure (roomTests flags w (length room) (length t))
 
-    by-answer : (a : Decoded) → decodeOf flags w ≡ a → OutcomeOf flags w room
-    by-answer (NotDecoded r) e =
-        let (h, l) = decode-number flags w r e in
-        rw (print-refused flags w (length room) r e, room-refused flags w room r e, e) (refused h l)
-    by-answer (Accepted i) e =
-        rw (print-accepted flags w (length room) i e, room-accepted flags w room i e, accepted-text flags w i e, e)
-        (by-room i (ltb (length room) (length (spelling i))) refl (line-between i))
+  pub put-outcome : Outcome Q t room (decodeNumber flags w) (refusalNumber failure) (putLength failure t) (filled failure t room)
+  put-outcome = by-answer (decodeOf flags w) refl
+    where
+      by-room : (b : Bool) → ltb (length room) (length t) ≡ b → Q
+          → (let o = cond b (some Room) none in Outcome Q t room 0 (refusalNumber o) (putLength o t) (filled o t room))
+      by-room true q k = short (ltb-true (length room) (length t) q) k
+      by-room false q k = fits (ltb-false (length room) (length t) q) k
+
+      by-answer : (a : Decoded) → decodeOf flags w ≡ a
+          → Outcome Q t room (decodeNumber flags w) (refusalNumber failure) (putLength failure t) (filled failure t room)
+      by-answer (NotDecoded r) e =
+          let (h, l) = decode-number flags w r e in
+          rw (room-refused flags w (length room) (length t) r e, e) (refused h l)
+      by-answer (Accepted i) e = rw (room-passed flags w (length room) (length t) i e, e) (by-room (ltb (length room) (length t)) refl (about i e))
+
+-- a print's number and length, by its failure
+printed-number : (o : Option Refusal) (t : Text) → printedNumber (printed o t) ≡ refusalNumber o
+printed-number none t = refl
+printed-number (some r) t = refl
+
+printed-length : (o : Option Refusal) (t : Text) → printedLength (printed o t) ≡ putLength o t
+printed-length none t = refl
+printed-length (some r) t = refl
+
+outcome : (flags w : ℕ) (room : List ℕ)
+    → (let n = length room in
+    Outcome (OfLength 1 63 (textOf w)) (textOf w) room (decodeNumber flags w) (printNumber flags w n) (printLength flags w n) (roomAfter flags w room))
+unfolding printOf roomAfter
+outcome flags w room =
+    rw (printed-number (firstFailure (printTests flags w (length room))) (textOf w), printed-length (firstFailure (printTests flags w (length room))) (textOf w))
+    (put-outcome (OfLength 1 63 (textOf w)) flags w (textOf w) room (λ i e. rw (accepted-text flags w i e) (line-between i)))
 
 -- which number print answers, and what it leaves in the room
 pub prints : (flags w : ℕ) (room : List ℕ) → Prints flags w room

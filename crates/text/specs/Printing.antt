@@ -1,14 +1,12 @@
 -- What print answers and what it leaves in the room (document 01, "Text" and "Refusal numbers").
-use mathlib.Core.List.{List, [], _∷_, _++_}
+use mathlib.Core.List.{List, [], _++_}
 use mathlib.Core.Option.{Option, none, some}
 use Prim.Native.Nat.{ℕ}
-use lib.Dec.{ltb}
 use lib.ListN.{length, drop}
 use Rattle.isa.specs.Refusals.{number, Test, firstFailure}
-use Rattle.isa.specs.Answers.{describe, decodeTests}
+use Rattle.isa.specs.Answers.{describe, roomTests}
 use Rattle.isa.specs.declared.Instruction.{Instruction}
 use Rattle.isa.specs.declared.Refusal.{Refusal}
-use Rattle.isa.specs.declared.Refusal.the-variants.{Room}
 use Rattle.text.specs.Spelling.{Text, spelling}
 use Rattle.text.specs.declared.Printed.{Printed}
 use Rattle.text.specs.declared.Printed.the-variants.{Length, Refused}
@@ -23,7 +21,7 @@ textOf w = spelt (describe w)
 
 -- tests 1, 7, 8, 12
 abbrev pub printTests : ℕ → ℕ → ℕ → List Test
-printTests flags w room = decodeTests flags w ++ (record { fails = ltb room (length (textOf w)); gives = Room } ∷ [])
+printTests flags w room = roomTests flags w room (length (textOf w))
 
 abbrev pub printed : Option Refusal → Text → Printed
 printed none t = Length (length t)
@@ -34,7 +32,7 @@ unfoldable pub printOf : ℕ → ℕ → ℕ → Printed
 printOf flags w room = printed (firstFailure (printTests flags w room)) (textOf w)
 
 -- the text at the start, and the bytes after it as they were; refused, all of them as they were
-abbrev pub filled : Option Refusal → Text → List ℕ → List ℕ
+abbrev pub filled : Option Refusal → List ℕ → List ℕ → List ℕ
 filled none t room = t ++ drop (length t) room
 filled (some r) t room = room
 

@@ -21,8 +21,8 @@ pub struct Kind {
     pub quarter: bool,
 }
 
-// Add and subtract, each source signed and unsigned, four sorts of sources (single registers and pairs, or sparse and full
-// predicates) and three fills.
+// Add and subtract, each source signed and unsigned (both alike in the 2-way forms), four sorts of sources (single registers and
+// pairs, or sparse and full predicates) and three fills.
 pub const CASES: u32 = 2 * 4 * 4 * 3;
 
 // A case of register pairs and of full predicates.

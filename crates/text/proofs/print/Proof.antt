@@ -3,7 +3,7 @@ use mathlib.Core.Path.{_∙_, sym, ap}
 use lib.ListN.{length}
 use Rattle.isa.proofs.Theorems.{accepted-in-range}
 use Rattle.text.specs.Printing.{printedNumber, printedLength}
-use Rattle.text.proofs.Rooms.{print-accepted, room-accepted, print-refused, room-refused}
+use Rattle.text.proofs.Rooms.{print-accepted, room-accepted, print-refused, unfilled}
 use borrow.Author.Needs.{needs}
 use Rattle.text.proofs.print.Statement.{statement}
 use Rattle.text.proofs.print.Tie as tie
@@ -29,7 +29,7 @@ returns-2 c =
     let d = sym (arm .before .before .decode .ensures .0) ∙ arm .r .given .1 in
     let room = arm .before .before .before .before .args .room .now in
     let e = sym (print-refused _ _ (length room) _ d) in
-    (e, (sym (room-refused _ _ room _ d), (ap printedNumber e, ap printedLength e)))
+    (e, (sym (unfilled _ _ room _ d), (ap printedNumber e, ap printedLength e)))
 
 pub print-spec : {M : Type 1} → statement M
 print-spec =

@@ -4,7 +4,7 @@ use Prim.Native.Nat.{_≤_}
 use native.Mathlib.Omega.{arith}
 use borrow.Author.Needs.{needs}
 use Rattle.isa.specs.Table.{register}
-use Rattle.replay.proofs.Ready.{quarter-registers}
+use Rattle.isa.proofs.Lines.{quarter-range}
 use Rattle.replay.proofs.operands.quarter_outer.Statement.{statement}
 use Rattle.replay.proofs.operands.quarter_outer.Tie as tie
 
@@ -12,7 +12,9 @@ returns : tie.Need-returns
 returns c = c .outer-product .ensures ∙ rw (c .before .before .halves-operand .ensures, c .before .halves-operand2 .ensures)
 
 registers : (s : tie.Start) → (register (s .args .first) ≤ 14) × (register (s .args .second) ≤ 30)
-registers s = quarter-registers (s .args .op) (s .args .tile) (s .args .first) (s .args .second) (s .pre)
+registers s =
+    let (f, n, l, m) = quarter-range (s .args .op) (s .args .tile) (s .args .first) (s .args .second) (s .pre) in
+    (n, m)
 
 pub quarter-outer-spec : {M : Type 1} → statement M
 quarter-outer-spec =
