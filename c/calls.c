@@ -3,11 +3,13 @@
 #include <stdio.h>
 #include <string.h>
 
-enum { VB = 16 };
+enum { VB = 16, MOST_WORDS = 65536 };
 
 static const uint32_t SUMOPA = 0xA0A00000, UMOPA_2WAY = 0xA1800008, ZERO = 0xC00800FF, UNLISTED = 0x81000010;
 
 static uint8_t z[32 * VB], p[2 * VB], za[VB * VB];
+
+static uint32_t list_too_long[MOST_WORDS + 1];
 
 static int wrong;
 
@@ -89,6 +91,11 @@ static uint32_t execute(uint32_t flags, bool streaming, bool za_on, size_t vb, u
     return birdaghol_execute(flags, streaming, za_on, vb, z, sizeof z, p, sizeof p, za, sizeof za, word);
 }
 
+/* A list of words on the same. */
+static uint64_t run(uint32_t flags, const uint32_t *list, size_t length) {
+    return birdaghol_run(flags, true, true, VB, z, sizeof z, p, sizeof p, za, sizeof za, list, length);
+}
+
 static void bench(void) {
     const uint32_t list[] = {ZERO, SUMOPA, UNLISTED, SUMOPA}, two_way[] = {ZERO, UMOPA_2WAY};
     const uint8_t sum[] = {0x04, 0xFC, 0xFF, 0xFF};
@@ -102,10 +109,26 @@ static void bench(void) {
     expect("execute, streaming off", execute(7, false, true, VB, SUMOPA), 9);
     expect("execute, ZA off", execute(7, true, false, VB, SUMOPA), 10);
     expect("run, Z too short", birdaghol_run(7, true, true, VB, z, 511, p, sizeof p, za, sizeof za, list, 4), packed(0, 3));
-    expect("run", birdaghol_run(7, true, true, VB, z, sizeof z, p, sizeof p, za, sizeof za, list, 4), packed(2, 7));
+    expect("run", run(7, list, 4), packed(2, 7));
     expect("run, its sum", (uint64_t)memcmp(za, sum, sizeof sum), 0);
-    expect("run, 2-way", birdaghol_run(15, true, true, VB, z, sizeof z, p, sizeof p, za, sizeof za, two_way, 2), packed(2, 0));
+    expect("run, 2-way", run(15, two_way, 2), packed(2, 0));
     expect("run, its 2-way sum", (uint64_t)memcmp(za, two_way_sum, sizeof two_way_sum), 0);
+}
+
+/* The longest list: ZERO, then SUMOPA. With one word more, nothing of it is executed, not even ZERO. */
+static void longest_lists(void) {
+    const uint8_t sum[] = {0xFC, 0x03, 0x04, 0xFC};
+    uint8_t before[sizeof za];
+    memset(before, 0xA5, sizeof before);
+    list_too_long[0] = ZERO;
+    for (size_t i = 1; i <= MOST_WORDS; i++) {
+        list_too_long[i] = SUMOPA;
+    }
+    expect("run, 65,536 words", run(7, list_too_long, MOST_WORDS), packed(MOST_WORDS, 0));
+    expect("run, their sum", (uint64_t)memcmp(za, sum, sizeof sum), 0);
+    memcpy(za, before, sizeof za);
+    expect("run, 65,537 words", run(7, list_too_long, MOST_WORDS + 1), packed(0, 6));
+    expect("run, its ZA", (uint64_t)memcmp(za, before, sizeof za), 0);
 }
 
 int main(void) {
@@ -113,6 +136,7 @@ int main(void) {
     encodings();
     descriptions();
     bench();
+    longest_lists();
     puts(wrong ? "calls from C: wrong" : "calls from C: as they should be");
     return wrong;
 }

@@ -6,7 +6,7 @@
    first; za has vb rows of vb bytes. Numbers in them are little-endian.
 
    Refusals, in the order of the tests: 1 flags above 15; 2 vb not 16, 32, 64, 128 or 256; 3, 4, 5 z, p, za of another
-   length; 6 a list of over 4,096 words; 7 a word that is not listed; 8 a word that needs a feature that is off; 9 an
+   length; 6 a list of over 65,536 words; 7 a word that is not listed; 8 a word that needs a feature that is off; 9 an
    outer product with streaming mode off; 10 ZA off; 11 a field out of range; 12 a room shorter than the text, or fewer
    fields than BIRDAGHOL_FIELDS.
    An answer of 64 bits is value * 256 + refusal: BIRDAGHOL_VALUE and BIRDAGHOL_REFUSAL take it apart. The value is 0
@@ -67,7 +67,8 @@ uint32_t birdaghol_describe(uint32_t flags, uint32_t word, uint32_t *fields, siz
 uint32_t birdaghol_execute(uint32_t flags, bool streaming, bool za_on, size_t vb, const uint8_t *z, size_t z_len,
                            const uint8_t *p, size_t p_len, uint8_t *za, size_t za_len, uint32_t word);
 
-/* Executes words in turn, up to the first that is refused. Value: how many were executed, beside a refusal too. */
+/* Executes words in turn, up to the first that is refused. Value: how many were executed, beside a refusal too. It
+   reaches 65,536, which takes 17 bits, and is 0 beside refusals 1 to 6, which leave za as it was. */
 uint64_t birdaghol_run(uint32_t flags, bool streaming, bool za_on, size_t vb, const uint8_t *z, size_t z_len,
                        const uint8_t *p, size_t p_len, uint8_t *za, size_t za_len, const uint32_t *words,
                        size_t words_len);

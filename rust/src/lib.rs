@@ -66,7 +66,7 @@ pub enum Instruction {
 #[must_use]
 #[derive(Clone, Copy, Debug, PartialEq, Eq)]
 pub struct Ended {
-    /// How many words were executed.
+    /// How many words were executed, 65,536 at most.
     pub count: usize,
     /// Why the run did not begin, or stopped at the next word.
     pub refusal: Option<Refusal>,
@@ -144,7 +144,7 @@ pub fn execute(bench: Bench, z: &[u8], p: &[u8], za: &mut [u8], word: u32) -> Re
     })
 }
 
-/// Executes a list of words in turn on the same buffers, up to the first word refused.
+/// Executes a list of at most 65,536 words in turn on the same buffers, up to the first word refused; of a longer one, none.
 pub fn run(bench: Bench, z: &[u8], p: &[u8], za: &mut [u8], words: &[u32]) -> Ended {
     // SAFETY: each address stands beside the length of its own slice; `za`, the only one written, is lent alone.
     let (count, refusal) = unpack(unsafe {

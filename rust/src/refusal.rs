@@ -58,7 +58,7 @@ impl fmt::Display for Refusal {
             Refusal::ZLength => "Z does not hold 32 vectors",
             Refusal::PLength => "P does not hold 16 predicates",
             Refusal::ZaLength => "ZA is not a square of the vector length",
-            Refusal::ListLength => "the list has more than 4096 words",
+            Refusal::ListLength => "the list has more than 65536 words",
             Refusal::Unlisted => "the word is no listed instruction",
             Refusal::FeatureOff => "the word needs a feature that is off",
             Refusal::StreamingOff => "an outer product needs streaming mode on",

@@ -7,7 +7,7 @@ mod pseudocode;
 mod sample;
 
 use birdaghol::{Bench, Operation, Refusal, Source};
-use pseudocode::{Instruction, OuterProduct, Sources};
+use pseudocode::{Instruction, MOST_WORDS, OuterProduct, Sources};
 use sample::{Case, Guarded, Random, Tally, seeds};
 use std::fmt::Debug;
 
@@ -143,7 +143,7 @@ fn run() {
     for seed in seeds(40_000) {
         let random = &mut Random::new(seed);
         let case = Case::new(random, &LENGTHS);
-        let length = if random.chance(50) { 4097 + random.below(99) } else { random.below(33) };
+        let length = if random.chance(50) { MOST_WORDS as u64 + 1 + random.below(99) } else { random.below(33) };
         let good = random.pick(&[7, 8]);
         let words: Vec<u32> = (0..length).map(|_| sample::word(random, good)).collect();
         let (count, number) = run_both(seed, &case, &words);
@@ -157,18 +157,18 @@ fn run() {
     tally.assert_lengths(5_000);
 }
 
-/// The longest list is run, one word more is refused.
+/// The longest list is run, one word more is refused. After a ZERO, the words before it would not count.
 #[test]
 fn run_longest_lists() {
     let mut ends = Vec::new();
     for seed in seeds(200) {
         let random = &mut Random::new(seed);
         let case = Case::new(random, &[16]);
-        let words: Vec<u32> = (0..4097).map(|_| sample::listed(random)).collect();
-        ends.push(run_both(seed, &case, &words[..4096]));
+        let words: Vec<u32> = (0..=MOST_WORDS).map(|_| sample::outer_product(random)).collect();
+        ends.push(run_both(seed, &case, &words[..MOST_WORDS]));
         ends.push(run_both(seed, &case, &words));
     }
-    for end in [(4096, 0), (0, 6)] {
+    for end in [(MOST_WORDS, 0), (0, 6)] {
         assert!(ends.iter().filter(|&&e| e == end).count() >= 50, "{end:?} is too rare");
     }
 }

@@ -145,7 +145,7 @@ fn every_refusal_by_its_name() {
         (stopped(BENCH, 511, 32, 256, 1), Refusal::ZLength),
         (stopped(BENCH, 512, 31, 256, 1), Refusal::PLength),
         (stopped(BENCH, 512, 32, 255, 1), Refusal::ZaLength),
-        (stopped(BENCH, 512, 32, 256, 4097), Refusal::ListLength),
+        (stopped(BENCH, 512, 32, 256, 65_537), Refusal::ListLength),
         (decode(7, 0x8100_0010).unwrap_err(), Refusal::Unlisted),
         (stopped(Bench { flags: 2, ..BENCH }, 512, 32, 256, 1), Refusal::FeatureOff),
         (stopped(Bench { streaming: false, ..BENCH }, 512, 32, 256, 1), Refusal::StreamingOff),
@@ -244,6 +244,6 @@ fn lengths_and_modes() {
     assert_eq!(try_word(off, ZERO), Err(Refusal::ZaOff));
 
     let list = |length| run(BENCH, &[0; 512], &[0; 32], &mut [0; 256], &vec![ZERO; length]);
-    assert_eq!(list(4096), Ended { count: 4096, refusal: None });
-    assert_eq!(list(4097), Ended { count: 0, refusal: Some(Refusal::ListLength) });
+    assert_eq!(list(65_536), Ended { count: 65_536, refusal: None });
+    assert_eq!(list(65_537), Ended { count: 0, refusal: Some(Refusal::ListLength) });
 }

@@ -1,8 +1,9 @@
 // Runs the bench examples of document 01, and some of the 2-way outer products, and writes what comes of each: its number
 // (0: done), then what it left.
 ghost use mathlib.Core.Path.{_≡_};
-ghost use Prim.Native.Nat.{_≤_};
+ghost use Prim.Native.Nat.{_+_, _≤_};
 ghost use lib.ListN.{length};
+ghost use Rattle.replay.specs.Lists.{mostWords};
 use isa::Decoded;
 use isa::Instruction;
 use libc::STDOUT_FILENO;
@@ -45,7 +46,7 @@ const UMOPS_TWO_WAY: u32 = 0xA180_0018;
 const SMOP4S_TWO_WAY: u32 = 0x8000_8018;
 
 // One word more than a run takes.
-const LIST_ROOM: usize = 4097;
+const LIST_ROOM: usize = replay::MOST_WORDS + 1;
 
 fn main() {
     texts();
@@ -202,8 +203,8 @@ fn lists() {
     let z = plus_one();
     let p = [0xFFu8; 32];
     let words = list_of_umopa();
-    list_example(b"4096 words", &z, &p, all_but_last(&words));
-    list_example(b"4097 words", &z, &p, &words);
+    list_example(b"65536 words", &z, &p, all_but_last(&words));
+    list_example(b"65537 words", &z, &p, &words);
 }
 
 // A Z with which an outer product of Z0 and Z0 adds 1 at (0, 0), in either width, and nothing elsewhere.
@@ -276,7 +277,7 @@ fn length_of(vb: usize) -> Bench {
 
 // Apart, so that proofs take the array by its length alone: it is too long to compute with.
 fn list_of_umopa() -> [u32; LIST_ROOM]
-    ensures { λ r. ⌜ 4097 ≡ length r ⌝ }
+    ensures { λ r. ⌜ mostWords + 1 ≡ length r ⌝ }
 {
     [UMOPA; LIST_ROOM]
 }

@@ -27,6 +27,7 @@ printed-short flags w room n e =
     let l = ap printedLength e in
     omega arith
 
+-- a run's count reaches 65,536, which takes 17 bits: with the refusal's 8 its answer has 25 of the 64
 pub run-short : (m : Machine) (ws : List ℕ) (e : Ended) → e ≡ runOf m ws → e .count ≤ mostWords
 run-short m ws e h = subst (λ (e : Ended). e .count ≤ mostWords) (sym h) (runs m ws .most)
 

@@ -164,7 +164,8 @@ pub extern "C" fn birdaghol_execute(
     refusal_of(replay::execute(bench_of(flags, streaming, za_on, vb), z, p, za, word))
 }
 
-// Executes words in turn, up to the first that is refused. The value is the number of words executed.
+// Executes words in turn, up to the first that is refused. The value is the number of words executed: 65,536 at most, and 0
+// for a longer list.
 #[no_mangle]
 pub extern "C" fn birdaghol_run(
     flags: u32,

@@ -5,13 +5,13 @@ ghost use lib.ListN.{length, drop, replicate};
 ghost use Rattle.checks.specs.Text.{digitOf, hexadecimal, fieldLength};
 use crate::Number;
 
-// A program's input must be shorter than this.
-pub const INPUT_ROOM: usize = 1048576;
+// A program's input must be shorter than this: it holds seven of the longest lists, a word being nine bytes of text.
+pub const INPUT_ROOM: usize = 4194304;
 
 // Room for it, as a function of its own: proofs take the array by its length, as it is too long to compute with.
 pub fn input_room() -> [u8; INPUT_ROOM]
-    ensures { λ r. ⌜ r ≡ replicate 1048576 0 ⌝ }
-    ensures { λ r. ⌜ 1048576 ≡ length r ⌝ }
+    ensures { λ r. ⌜ r ≡ replicate 4194304 0 ⌝ }
+    ensures { λ r. ⌜ 4194304 ≡ length r ⌝ }
 {
     [0; INPUT_ROOM]
 }

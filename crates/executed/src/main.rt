@@ -14,9 +14,6 @@ const ALL_FEATURES: u32 = 15;
 
 const LONGEST_VB: u32 = 256;
 
-// As many words as a run takes.
-const WORDS_ROOM: usize = 4096;
-
 fn main() {
     let mut input = checks::input_room();
     let n = io::read_full(STDIN_FILENO, &mut input);
@@ -120,7 +117,7 @@ fn fields_outcome(vb: &[u8], seed: &[u8], fill: &[u8], words: &[u8], checksum: &
         1 => Fill::Edges,
         _ => return Outcome::Malformed,
     };
-    let mut room = [0u32; WORDS_ROOM];
+    let mut room = [0u32; replay::MOST_WORDS];
     words_outcome(vb as usize, seed, fill, words, &mut room, checksum)
 }
 

@@ -15,9 +15,9 @@ use Rattle.replay.specs.Execution.{machineTests, wordRefusal, after, out
 unfoldable pub played : Machine → List ℕ → Machine
 played m ws = foldl after m ws
 
--- the most words that a run takes
+-- the most words that a run takes (document 02, C-16)
 abbrev pub mostWords : ℕ
-mostWords = 4096
+mostWords = 65536
 
 abbrev pub listTest : ℕ → Test
 listTest words = record { fails = ltb mostWords words; gives = ListLength }

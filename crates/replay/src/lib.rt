@@ -6,6 +6,7 @@ mod operands;
 mod reversal;
 
 pub use executor::execute;
+pub use lists::MOST_WORDS;
 pub use lists::play;
 pub use lists::run;
 pub use reversal::exchange;

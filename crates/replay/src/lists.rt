@@ -15,7 +15,7 @@ use crate::executor::execute_word;
 use isa::Refusal;
 
 // The most words that a run takes.
-const MOST_WORDS: usize = 4096;
+pub const MOST_WORDS: usize = 65536;
 
 // Executes words in turn and leaves the list at the first that is refused.
 pub fn run(bench: Bench, z: &[u8], p: &[u8], za: &mut [u8], words: &[u32]) -> Ended

@@ -15,6 +15,9 @@ pub struct Bench {
 /// A source as signed numbers: the K elements that meet each row or column of the tile.
 type Groups<const K: usize> = Vec<[i32; K]>;
 
+/// The most words that a run takes.
+pub const MOST_WORDS: usize = 65_536;
+
 /// Executes one word, or refuses it by 1 to 5 or 7 to 10.
 pub fn execute(bench: Bench, z: &[u8], p: &[u8], za: &mut [u8], word: u32) -> Result<(), u32> {
     check(bench, z, p, za)?;
@@ -26,7 +29,7 @@ pub fn run(bench: Bench, z: &[u8], p: &[u8], za: &mut [u8], words: &[u32]) -> (u
     if let Err(refusal) = check(bench, z, p, za) {
         return (0, refusal);
     }
-    if words.len() > 4096 {
+    if words.len() > MOST_WORDS {
         return (0, 6);
     }
     for (count, &word) in words.iter().enumerate() {

@@ -5,7 +5,7 @@ mod execute;
 mod fields;
 mod text;
 
-pub use execute::{Bench, execute, run};
+pub use execute::{Bench, MOST_WORDS, execute, run};
 pub use fields::describe;
 pub use text::print;
 

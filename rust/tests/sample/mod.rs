@@ -39,6 +39,12 @@ pub fn listed(random: &mut Random) -> u32 {
     of_lines(random, &LINES)
 }
 
+/// An outer product of some line of the table, its fields random.
+pub fn outer_product(random: &mut Random) -> u32 {
+    let lines = if random.chance(3) { &LINES[5..] } else { &LINES[..4] };
+    of_lines(random, lines)
+}
+
 /// A word of one of these lines, its fields random.
 pub fn of_lines(random: &mut Random, lines: &[(u32, u32)]) -> u32 {
     let (fixed, free) = random.pick(lines);
