@@ -199,6 +199,7 @@ fn modes() {
     );
 }
 
+// As C-16 of document 02 amends the example.
 fn lists() {
     let z = plus_one();
     let p = [0xFFu8; 32];

@@ -2,7 +2,7 @@
 ghost use mathlib.Core.Path.{_≡_};
 ghost use Prim.Native.Nat.{_+_, _-_, _≤_};
 ghost use lib.ListN.{length, drop, replicate};
-ghost use Rattle.checks.specs.Text.{digitOf, hexadecimal, fieldLength};
+ghost use Rattle.checks.specs.Text.{inputRoom, digitOf, hexadecimal, fieldLength};
 use crate::Number;
 
 // A program's input must be shorter than this: it holds seven of the longest lists, a word being nine bytes of text.
@@ -10,8 +10,8 @@ pub const INPUT_ROOM: usize = 4194304;
 
 // Room for it, as a function of its own: proofs take the array by its length, as it is too long to compute with.
 pub fn input_room() -> [u8; INPUT_ROOM]
-    ensures { λ r. ⌜ r ≡ replicate 4194304 0 ⌝ }
-    ensures { λ r. ⌜ 4194304 ≡ length r ⌝ }
+    ensures { λ r. ⌜ r ≡ replicate inputRoom 0 ⌝ }
+    ensures { λ r. ⌜ inputRoom ≡ length r ⌝ }
 {
     [0; INPUT_ROOM]
 }

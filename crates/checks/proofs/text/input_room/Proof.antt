@@ -3,11 +3,12 @@
 use mathlib.Core.Path.{refl, sym}
 use Prim.Native.Nat.{ℕ}
 use lib.ListN.{length-replicate}
+use Rattle.checks.specs.Text.{inputRoom}
 use Rattle.checks.proofs.text.input_room.Statement.{statement}
 use Rattle.checks.proofs.text.input_room.Tie as tie
 
 returns : tie.Need-returns
-returns c = (refl, sym (length-replicate {0} {A = ℕ} 4194304 0))
+returns c = (refl, sym (length-replicate {0} {A = ℕ} inputRoom 0))
 
 pub input-room-spec : {M : Type 1} → statement M
 input-room-spec = tie.close (tie.spec returns)
