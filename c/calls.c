@@ -40,6 +40,37 @@ static void words(void) {
     expect("print, its 2-way text", (uint64_t)memcmp(room, two_way, strlen(two_way)), 0);
 }
 
+/* Reads a line without the 0 after it. */
+static uint64_t read_line(uint32_t flags, const char *line) {
+    return birdaghol_read(flags, (const uint8_t *)line, strlen(line));
+}
+
+static void lines(void) {
+    const char *sumops = "sumops za3.s, p2/m, p5/m, z3.b, z17.b";
+    const char *pairs = "usmop4s za2.s, { z10.b-z11.b }, { z30.b-z31.b }";
+    const char *usmop4s = "usmop4s za7.d, z0.h, z16.h";
+    const char *two_way = "umopa za0.s, p0/m, p0/m, z0.h, z0.h";
+    expect("read, predicated", read_line(1, sumops), packed(0xA0B1A873, 0));
+    expect("read, predicated, 64-bit", read_line(2, "umopa za7.d, p1/m, p2/m, z4.h, z31.h"), packed(0xA1FF4487, 0));
+    expect("read, predicated, 2-way", read_line(8, two_way), packed(UMOPA_2WAY, 0));
+    expect("read, quarter-tile", read_line(4, pairs), packed(0x811E8352, 0));
+    expect("read, quarter-tile, 64-bit", read_line(6, usmop4s), packed(0xA1C0001F, 0));
+    expect("read, quarter-tile, 2-way", read_line(4, "smop4s za2.s, z12.h, { z18.h-z19.h }"), packed(0x8012819A, 0));
+    expect("read, ZERO", read_line(1, "zero { za0.d, za4.d }"), packed(0xC0080011, 0));
+    expect("read, ZERO of nothing", read_line(1, "zero {}"), packed(0xC0080000, 0));
+    expect("read, a feature off", read_line(4, usmop4s), packed(0, 8));
+    expect("read, SME2 off", read_line(7, two_way), packed(0, 8));
+    expect("read, flags", read_line(16, "no text"), packed(0, 1));
+    expect("read, a feature off, no text", read_line(0, "sumops za3.s, p2/m, p5/m, z3.b, z17"), packed(0, 13));
+    expect("read, nothing", read_line(15, ""), packed(0, 13));
+    expect("read, a leading zero", read_line(15, "sumops za3.s, p2/m, p5/m, z03.b, z17.b"), packed(0, 13));
+    expect("read, capitals", read_line(15, "SUMOPS ZA3.S, P2/M, P5/M, Z3.B, Z17.B"), packed(0, 13));
+    expect("read, a space behind", read_line(15, "zero {} "), packed(0, 13));
+    expect("read, tiles falling", read_line(15, "zero { za4.d, za0.d }"), packed(0, 13));
+    expect("read, its 0 too", birdaghol_read(15, (const uint8_t *)sumops, strlen(sumops) + 1), packed(0, 13));
+    expect("read, its start", birdaghol_read(15, (const uint8_t *)sumops, strlen(sumops) - 1), packed(0, 13));
+}
+
 static void encodings(void) {
     expect("encode_predicated", birdaghol_encode_predicated(4, 4, false, true, true, 3, 2, 5, 3, 17), packed(0xA0B1A873, 0));
     expect("encode_predicated, 2-way", birdaghol_encode_predicated(4, 2, true, true, true, 3, 2, 5, 3, 17), packed(0xA191A87B, 0));
@@ -133,6 +164,7 @@ static void longest_lists(void) {
 
 int main(void) {
     words();
+    lines();
     encodings();
     descriptions();
     bench();

@@ -1,14 +1,14 @@
-/* Birdaghol for C: Arm SME integer outer products, decoded, encoded, printed and replayed by proved code.
+/* Birdaghol for C: Arm SME integer outer products, decoded, encoded, printed, read and replayed by proved code.
    Link target/staticlib/libbirdaghol.a, which `rt staticlib birdaghol` writes, into programs for x86-64.
 
    Flags are the sum of the features that are on: 1 SME, 2 I16I64, 4 MOP4, 8 SME2. vb is the vector length in bytes.
    z has 32 * vb bytes, register by register; p has 2 * vb bytes, 16 predicates of one bit for each vector byte, lowest
    first; za has vb rows of vb bytes. Numbers in them are little-endian.
 
-   Refusals, in the order of the tests: 1 flags above 15; 2 vb not 16, 32, 64, 128 or 256; 3, 4, 5 z, p, za of another
-   length; 6 a list of over 65,536 words; 7 a word that is not listed; 8 a word that needs a feature that is off; 9 an
-   outer product with streaming mode off; 10 ZA off; 11 a field out of range; 12 a room shorter than the text, or fewer
-   fields than BIRDAGHOL_FIELDS.
+   Refusals, in the order of the tests, but for 13, which is tested before 8: 1 flags above 15; 2 vb not 16, 32, 64, 128
+   or 256; 3, 4, 5 z, p, za of another length; 6 a list of over 65,536 words; 7 a word that is not listed; 8 a word that
+   needs a feature that is off; 9 an outer product with streaming mode off; 10 ZA off; 11 a field out of range; 12 a
+   room shorter than the text, or fewer fields than BIRDAGHOL_FIELDS; 13 a line that is no listed word's text.
    An answer of 64 bits is value * 256 + refusal: BIRDAGHOL_VALUE and BIRDAGHOL_REFUSAL take it apart. The value is 0
    beside a refusal, but for birdaghol_run.
 
@@ -33,6 +33,10 @@ uint32_t birdaghol_decode(uint32_t flags, uint32_t word);
 
 /* Puts the text of a word, 63 bytes at most and no 0 after it, at the start of room. Value: its length. */
 uint64_t birdaghol_print(uint32_t flags, uint32_t word, uint8_t *room, size_t room_len);
+
+/* The word whose text a line is, byte for byte as birdaghol_print gives it: with another case, a space, a leading zero
+   or a line end it is no text. Value: the word. Refusal: 1, 13 or 8, tested in this order. */
+uint64_t birdaghol_read(uint32_t flags, const uint8_t *line, size_t line_len);
 
 /* The word of a predicated outer product. Value: the word. Refusal: 11, unless element_bytes is 4 or 8; products is 4,
    or 2 where element_bytes is 4 and the signs are alike; the tile is below element_bytes, predicates pn and pm below 8,

@@ -8,8 +8,9 @@ mod pseudocode;
 mod sample;
 
 use birdaghol::{Bench, Ended};
-use sample::{LINES, Random};
+use sample::{DAMAGES, LINES, Random};
 use std::hint::black_box;
+use std::iter;
 use std::time::Instant;
 
 /// Every feature.
@@ -21,7 +22,7 @@ const FOUR_WAY: [u32; 2] = [0xA1A0_0000, 0xA0C0_0018];
 /// The 2-way UMOPA and SMOP4S.
 const TWO_WAY: [u32; 2] = [0xA180_0008, 0x8000_8018];
 
-/// Words for each rate.
+/// Words, or lines of text, for each rate.
 const WORDS: u64 = 200_000;
 
 /// A predicate byte that has every second pair of bits set: half of the elements are active, of one byte or of two.
@@ -47,17 +48,35 @@ fn runs(vb: usize, rounds: usize) {
     }
 }
 
-/// The lines for listed words but the 2-way ones, for these, and for random words.
+/// The lines for listed words but the 2-way ones, for these, and for random words; then for the texts of the first two,
+/// and for damaged ones.
 fn rates() {
     let random = &mut Random::new(1);
     let (lines, two_way_lines) = LINES.split_at(5);
     let listed: Vec<u32> = (0..WORDS).map(|_| sample::of_lines(random, lines)).collect();
     let any: Vec<u32> = (0..WORDS).map(|_| random.u32()).collect();
     let two_way: Vec<u32> = (0..WORDS).map(|_| sample::of_lines(random, two_way_lines)).collect();
+    let [texts, two_way_texts] = [&listed, &two_way].map(|words| texts(words));
+    let damaged = damaged(random, &texts);
     for (mix, words) in [("listed words", listed), ("2-way words", two_way), ("random words", any)] {
         row(&format!("decode, {mix}"), "M/s", decode(&words).map(rate));
         row(&format!("print, {mix}"), "M/s", print(&words).map(rate));
     }
+    for (mix, texts) in [("listed words", texts), ("2-way words", two_way_texts), ("damaged lines", damaged)] {
+        row(&format!("read, {mix}"), "M/s", read(&texts).map(rate));
+    }
+}
+
+/// The texts of the words.
+fn texts(words: &[u32]) -> Vec<Vec<u8>> {
+    words.iter().map(|&word| sample::text(word)).collect()
+}
+
+/// The texts with a byte or a part of each damaged, so that all are refused.
+fn damaged(random: &mut Random, texts: &[Vec<u8>]) -> Vec<Vec<u8>> {
+    let mut harmed = |text: &Vec<u8>| (random.pick(&DAMAGES[..13]).harm)(random, text.clone());
+    let refused = |line: &Vec<u8>| pseudocode::read(FLAGS, line).is_err();
+    texts.iter().map(|text| iter::repeat_with(|| harmed(text)).find(refused).expect("a refused line")).collect()
 }
 
 /// One line of the table; where figures are rates, the ratio of times is that of the rates turned over.
@@ -66,7 +85,7 @@ fn row(name: &str, unit: &str, [library, ordinary]: [f64; 2]) {
     println!("{name:<32}{library:>8.3} {unit:<3}{ordinary:>12.3} {unit:<3}{ratio:>8.2}");
 }
 
-/// Millions of words a second.
+/// Millions of words, or of lines, a second.
 fn rate(seconds: f64) -> f64 {
     WORDS as f64 / seconds / 1e6
 }
@@ -118,6 +137,15 @@ fn print(words: &[u32]) -> [f64; 2] {
     };
     let library = || each(|word, room| birdaghol::print(FLAGS, word, room).unwrap_or(0));
     let ordinary = || each(|word, room| pseudocode::print(FLAGS, word, room).unwrap_or(0));
+    assert_eq!(library(), ordinary());
+    race(20, || _ = black_box(library()), || _ = black_box(ordinary()))
+}
+
+/// Times both readers over the lines.
+fn read(lines: &[Vec<u8>]) -> [f64; 2] {
+    let each = |word: fn(&[u8]) -> u32| lines.iter().map(|line| u64::from(word(black_box(line)))).sum::<u64>();
+    let library = || each(|line| birdaghol::read(FLAGS, line).unwrap_or(0));
+    let ordinary = || each(|line| pseudocode::read(FLAGS, line).unwrap_or(0));
     assert_eq!(library(), ordinary());
     race(20, || _ = black_box(library()), || _ = black_box(ordinary()))
 }

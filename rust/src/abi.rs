@@ -14,6 +14,8 @@ unsafe extern "C" {
 
     pub fn birdaghol_print(flags: u32, word: u32, room: *mut u8, room_len: usize) -> u64;
 
+    pub fn birdaghol_read(flags: u32, line: *const u8, line_len: usize) -> u64;
+
     pub safe fn birdaghol_encode_predicated(
         element_bytes: u32,
         products: u32,

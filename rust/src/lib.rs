@@ -1,6 +1,6 @@
 //! Safe functions over slices for Birdaghol's proved library, which replays Arm SME integer outer products on a bench.
 //!
-//! Any word, flags, modes, vector length, buffers and lists may be handed in. Bad input gets a [`Refusal`], and a
+//! Any word, line, flags, modes, vector length, buffers and lists may be handed in. Bad input gets a [`Refusal`], and a
 //! refusal changes no byte; only a list stopped in its middle leaves ZA as the words before the stop left it.
 
 mod abi;
@@ -82,6 +82,14 @@ pub fn print(flags: u32, word: u32, room: &mut [u8]) -> Result<usize, Refusal> {
     // SAFETY: the address and the length are those of one slice, lent for this call alone.
     let answer = unsafe { abi::birdaghol_print(flags, word, room.as_mut_ptr(), room.len()) };
     value(answer).map(|length| length as usize)
+}
+
+/// The one word whose text a line is, byte for byte as [`print`] writes it. Takes a `&str`, or a `&[u8]` of any bytes.
+pub fn read(flags: u32, line: impl AsRef<[u8]>) -> Result<u32, Refusal> {
+    let line = line.as_ref();
+    // SAFETY: the address and the length are those of one slice, which nothing writes while it is lent.
+    let answer = unsafe { abi::birdaghol_read(flags, line.as_ptr(), line.len()) };
+    value(answer).map(|word| word as u32)
 }
 
 /// The one word of a description.

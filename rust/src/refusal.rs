@@ -3,7 +3,8 @@
 use std::error::Error;
 use std::fmt;
 
-/// Why an input was refused; the tests are made in this order, and the first that applies is given.
+/// Why an input was refused; the tests are made in this order, but for `NotText`, which comes before `FeatureOff`, and
+/// the first that applies is given.
 #[derive(Clone, Copy, Debug, PartialEq, Eq)]
 pub enum Refusal {
     Flags = 1,
@@ -18,11 +19,12 @@ pub enum Refusal {
     ZaOff = 10,
     OutOfRange = 11,
     Room = 12,
+    NotText = 13,
 }
 
 impl Refusal {
     /// All refusals, rising.
-    const ALL: [Refusal; 12] = [
+    const ALL: [Refusal; 13] = [
         Refusal::Flags,
         Refusal::VectorLength,
         Refusal::ZLength,
@@ -35,6 +37,7 @@ impl Refusal {
         Refusal::ZaOff,
         Refusal::OutOfRange,
         Refusal::Room,
+        Refusal::NotText,
     ];
 
     /// The number of this refusal.
@@ -65,6 +68,7 @@ impl fmt::Display for Refusal {
             Refusal::ZaOff => "the word needs ZA on",
             Refusal::OutOfRange => "a field is out of range",
             Refusal::Room => "the room is too short",
+            Refusal::NotText => "the line is the text of no listed word",
         })
     }
 }

@@ -8,8 +8,8 @@ mod sample;
 
 use birdaghol::{Bench, Operation, Refusal, Source};
 use pseudocode::{Instruction, MOST_WORDS, OuterProduct, Sources};
-use sample::{Case, Guarded, Random, Tally, seeds};
-use std::fmt::Debug;
+use sample::{Case, DAMAGES, Guarded, Random, Tally, seeds};
+use std::fmt::{Arguments, Debug};
 
 /// The vector lengths, short ones more often.
 const LENGTHS: [usize; 9] = [16, 16, 16, 32, 32, 64, 64, 128, 256];
@@ -48,6 +48,69 @@ fn print() {
         tally.count(word, &expected);
     }
     tally.assert_covers(&[1, 7, 8, 12], 5_000);
+}
+
+/// The text of a listed word is read to that word, unless its flags refuse it.
+#[test]
+fn read() {
+    let mut tally = Tally::default();
+    for seed in seeds(500_000) {
+        let random = &mut Random::new(seed);
+        let (flags, word) = (sample::flags(random), sample::listed(random));
+        let expected = pseudocode::decode(flags, word).map(|_| word);
+        let answer = read_both(format_args!("seed {seed}"), flags, &sample::text(word));
+        assert_eq!(answer, expected, "seed {seed}: flags {flags}, word {word:08x}");
+        tally.count(word, &expected);
+    }
+    tally.assert_covers(&[1, 8], 5_000);
+}
+
+/// A damaged line gets the same answer, and is refused by 13 unless the damage made it the text of another word.
+#[test]
+fn read_damaged_lines() {
+    let mut tally = Tally::default();
+    for seed in seeds(1_000_000) {
+        let random = &mut Random::new(seed);
+        let flags = if random.chance(2) { sample::flags(random) } else { 15 };
+        let text = sample::text(sample::listed(random));
+        let damage = random.pick(&DAMAGES);
+        let line = (damage.harm)(random, text.clone());
+        let answer = read_both(format_args!("seed {seed}, {}", damage.name), flags, &line);
+        if line != text {
+            tally.count(answer.unwrap_or(0), &answer);
+            tally.damage(damage, !matches!(answer, Err(1 | 13)));
+        }
+    }
+    tally.assert_covers(&[1, 8, 13], 500);
+    tally.assert_damaged(10_000, 100);
+}
+
+/// Every listed word is printed and read back. The start of its text is refused, though the rest lies behind it, and
+/// the text without one of its bytes gets the same answer.
+#[test]
+fn read_every_text() {
+    let mut words = 0;
+    for word in sample::every_listed() {
+        let mut room = [0; 63];
+        let length = birdaghol::print(15, word, &mut room).expect("a listed word");
+        let (line, at) = (&room[..length], words % length);
+        assert_eq!(birdaghol::read(15, line), Ok(word), "word {word:08x}");
+        assert_eq!(birdaghol::read(15, &line[..at]), Err(Refusal::NotText), "word {word:08x} up to byte {at}");
+        let without = [&line[..at], &line[at + 1..]].concat();
+        _ = read_both(format_args!("word {word:08x} without byte {at}"), 15, &without);
+        words += 1;
+    }
+    assert_eq!(words, 7_368_960);
+}
+
+/// Reads a line on both sides, and makes sure that it stays as it was.
+fn read_both(case: Arguments, flags: u32, line: &[u8]) -> Result<u32, u32> {
+    let mut lent = Guarded::new(line);
+    let expected = pseudocode::read(flags, line);
+    let answer = birdaghol::read(flags, lent.lend()).map_err(Refusal::number);
+    assert_eq!(answer, expected, "{case}: flags {flags}, line `{}`", line.escape_ascii());
+    assert!(lent.holds(line), "{case}: the line was written, or a guard fell");
+    expected
 }
 
 /// A word gets the same description under any flags, and that description the word.

@@ -1,6 +1,8 @@
 //! The bench examples of the rules, through the safe functions.
 
-use birdaghol::{Bench, Ended, Instruction, Operation, Refusal, Source, decode, describe, encode, execute, print, run};
+use birdaghol::{
+    Bench, Ended, Instruction, Operation, Refusal, Source, decode, describe, encode, execute, print, read, run,
+};
 use std::array;
 
 /// Every feature and both modes on, vectors of 16 bytes.
@@ -60,6 +62,7 @@ fn texts_and_refused_words() {
         (0xC008_0000, "zero {}"),
     ] {
         assert_eq!(text(7, word).as_deref(), Ok(line));
+        assert_eq!(read(7, line), Ok(word));
     }
     for word in [0x8100_0010, 0xA0E1_0018, 0xA0E0_0038, 0xC008_0100] {
         assert_eq!(decode(7, word), Err(Refusal::Unlisted));
@@ -79,6 +82,7 @@ fn two_way_texts_and_refused_words() {
         (15, 0x811E_835A, "umop4s za2.s, { z10.h-z11.h }, { z30.h-z31.h }"),
     ] {
         assert_eq!(text(flags, word).as_deref(), Ok(line));
+        assert_eq!(read(flags, line.as_bytes()), Ok(word));
     }
     for word in [0xA0A0_0008, 0x8020_8008] {
         assert_eq!(decode(15, word), Err(Refusal::Unlisted), "mixed signs");
@@ -86,6 +90,82 @@ fn two_way_texts_and_refused_words() {
     assert_eq!(decode(7, 0xA080_0008), Err(Refusal::FeatureOff));
     assert_eq!(decode(11, 0x8000_8008), Err(Refusal::FeatureOff));
     assert_eq!(decode(16, 0xA080_0008), Err(Refusal::Flags));
+}
+
+#[test]
+fn lines_that_are_no_text() {
+    for line in [
+        "",
+        "sumops",
+        "SUMOPS za3.s, p2/m, p5/m, z3.b, z17.b",
+        "sumops ZA3.S, p2/m, p5/m, z3.b, z17.b",
+        " sumops za3.s, p2/m, p5/m, z3.b, z17.b",
+        "sumops  za3.s, p2/m, p5/m, z3.b, z17.b",
+        "sumops\tza3.s, p2/m, p5/m, z3.b, z17.b",
+        "sumops za3.s,p2/m,p5/m,z3.b,z17.b",
+        "sumops za3.s, p2/m, p5/m, z3.b, z17.b ",
+        "sumops za3.s, p2/m, p5/m, z3.b, z17.b\n",
+        "sumops za3.s, p2/m, p5/m, z3.b, z17.b\0",
+        "sumops za3.s, p2/m, p5/m, z3.b, z17",
+        "sumops za3.s, p2/m, p5/m, z03.b, z17.b",
+        "sumops za03.s, p2/m, p5/m, z3.b, z17.b",
+        "sumops za3.s, p2/z, p5/m, z3.b, z17.b",
+        "sumops za4.s, p2/m, p5/m, z3.b, z17.b",
+        "sumops za3.s, p2/m, p8/m, z3.b, z17.b",
+        "sumops za3.s, p2/m, p5/m, z3.b, z32.b",
+        "sumops za3.s, p2/m, p5/m, z259.b, z17.b",
+        "sumops za3.s, p2/m, p5/m, z3.b, z4294967313.b",
+        "sumops za3.s, p2/m, p5/m, z3.b, z17.h",
+        "sumops za3.s, p2/m, p5/m, z3.h, z17.h",
+        "sumops za3.d, p2/m, p5/m, z3.b, z17.b",
+        "sumops za3.s, p2/m, p5/m, z3.b",
+        "sumops za3.s, p2/m, p5/m, z3.b, z17.b, z17.b",
+        "fmops za3.s, p2/m, p5/m, z3.b, z17.b",
+        "usmop4s za0.s, z1.b, z16.b",
+        "usmop4s za0.s, z16.b, z16.b",
+        "usmop4s za0.s, z0.b, z14.b",
+        "usmop4s za0.s, z0.h, z16.h",
+        "usmop4s za0.s, { z0.b }, z16.b",
+        "usmop4s za2.s, { z10.b-z12.b }, { z30.b-z31.b }",
+        "usmop4s za2.s, { z11.b-z12.b }, { z30.b-z31.b }",
+        "usmop4s za2.s, { z10.b, z11.b }, { z30.b-z31.b }",
+        "usmop4s za2.s, {z10.b-z11.b}, {z30.b-z31.b}",
+        "zero",
+        "zero { }",
+        "zero {za0.d}",
+        "zero { za4.d, za0.d }",
+        "zero { za0.d, za0.d }",
+        "zero { za0.d, za4.d, }",
+        "zero { za8.d }",
+        "zero { za0.s }",
+        "zero { za }",
+        "zero { za0.d, za4.d } // both",
+    ] {
+        assert_eq!(read(15, line), Err(Refusal::NotText), "{line}");
+        assert_eq!(read(0, line), Err(Refusal::NotText), "{line}");
+        assert_eq!(read(16, line), Err(Refusal::Flags), "{line}");
+    }
+    for bytes in [&[0xFF; 37][..], "zéro {}".as_bytes(), &[b'z'; 10_000], &b"zero {}".repeat(1_400)] {
+        assert_eq!(read(15, bytes), Err(Refusal::NotText));
+    }
+}
+
+#[test]
+fn lines_of_features_that_are_off() {
+    for (off, on, line) in [
+        (14, 1, "sumops za3.s, p2/m, p5/m, z3.b, z17.b"),
+        (13, 2, "sumops za3.d, p2/m, p5/m, z3.h, z17.h"),
+        (7, 8, "smops za3.s, p2/m, p5/m, z3.h, z17.h"),
+        (11, 4, "usmop4s za0.s, z0.b, z16.b"),
+        (11, 4, "umop4s za0.s, z0.h, z16.h"),
+        (4, 6, "usmop4s za7.d, z0.h, z16.h"),
+        (14, 1, "zero {}"),
+    ] {
+        assert_eq!(read(off, line), Err(Refusal::FeatureOff), "{line}");
+        assert_eq!(read(on, line), read(15, line), "{line}");
+        assert_eq!(read(16, line), Err(Refusal::Flags), "{line}");
+    }
+    assert_eq!(read(6, "usmop4s za7.d, z0.h, z16.h"), Ok(0xA1C0_001F));
 }
 
 #[test]
@@ -152,6 +232,7 @@ fn every_refusal_by_its_name() {
         (stopped(Bench { za_on: false, ..BENCH }, 512, 32, 256, 1), Refusal::ZaOff),
         (encode(Instruction::Predicated { op, tile: 0, pn: 0, pm: 0, zn: 0, zm: 0 }).unwrap_err(), Refusal::OutOfRange),
         (print(7, ZERO, &mut [0; 62]).unwrap_err(), Refusal::Room),
+        (read(7, "zero { }").unwrap_err(), Refusal::NotText),
     ];
     for (number, (refusal, name)) in (1..).zip(refusals) {
         assert_eq!((refusal, refusal.number()), (name, number));

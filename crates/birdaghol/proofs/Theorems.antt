@@ -24,6 +24,10 @@ use Rattle.text.specs.Printing.{printOf, printedNumber}
 use Rattle.text.proofs.Theorems.{put-outcome, accepts, same, gives-12, known, unchanged}
 use Rattle.text.specs.declared.Printed.{Printed}
 use Rattle.text.specs.declared.Printed.the-variants.{Length, Refused as NotPrinted}
+use Rattle.text.specs.Spelling.{Text}
+use Rattle.reader.specs.Answers.{readOf, readingNumber}
+use Rattle.reader.specs.declared.Reading.{Reading}
+use Rattle.reader.specs.declared.Reading.the-variants.{Word, Refused as NotRead}
 use Rattle.replay.specs.Execution.{outcomeNumber}
 use Rattle.replay.specs.Lists.{runOf}
 use Rattle.replay.specs.Machine.{Machine}
@@ -31,7 +35,7 @@ use Rattle.replay.specs.declared.Outcome.{Outcome}
 use Rattle.replay.specs.declared.Outcome.the-variants.{Done, Refused}
 use Rattle.birdaghol.specs.Calls.{packed, sized, operation, packedEncoded, encodeCall, askedPredicated, askedQuarter}
 use Rattle.birdaghol.specs.Fields.{numbersIn}
-use Rattle.birdaghol.specs.Claims.{Unpacks, PrintUnpacks, RunUnpacks, ElementSize, Formed, PredicatedFits, QuarterFits}
+use Rattle.birdaghol.specs.Claims.{Unpacks, PrintUnpacks, ReadUnpacks, RunUnpacks, ElementSize, Formed, PredicatedFits, QuarterFits}
 use Rattle.birdaghol.specs.Claims.{EncodeAnswers, PredicatedAnswers, QuarterAnswers, ZeroAnswers, DescribeAnswers}
 use Rattle.birdaghol.proofs.Fields.{Described, numbers-described, fields-numbers, fields-rest, fields-encoded}
 
@@ -42,12 +46,19 @@ printed-number : (a : Printed) → printedNumber a < 256
 printed-number (Length n) = omega arith
 printed-number (NotPrinted r) = omega (arith, number-between r .1)
 
+reading-number : (a : Reading) → readingNumber a < 256
+reading-number (Word w) = omega arith
+reading-number (NotRead r) = omega (arith, number-between r .1)
+
 outcome-number : (o : Outcome) → outcomeNumber o < 256
 outcome-number Done = omega arith
 outcome-number (Refused r) = omega (arith, number-between r .1)
 
 pub print-unpacks : (flags w : ℕ) (room : List ℕ) → PrintUnpacks flags w room
 print-unpacks flags w room = unpacks _ _ (printed-number (printOf flags w (length room)))
+
+pub read-unpacks : (flags : ℕ) (t : Text) → ReadUnpacks flags t
+read-unpacks flags t = unpacks _ _ (reading-number (readOf flags t))
 
 pub run-unpacks : (m : Machine) (ws : List ℕ) → RunUnpacks m ws
 run-unpacks m ws = unpacks _ _ (outcome-number (runOf m ws .outcome))

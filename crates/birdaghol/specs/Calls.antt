@@ -14,6 +14,9 @@ use Rattle.isa.specs.declared.Refusal.the-variants.{OutOfRange}
 use Rattle.isa.specs.Table.{source}
 use Rattle.text.specs.Printing.{printOf, printedNumber, printedLength}
 use Rattle.text.specs.declared.Printed.{Printed}
+use Rattle.text.specs.Spelling.{Text}
+use Rattle.reader.specs.Answers.{readOf, readingNumber, readingWord}
+use Rattle.reader.specs.declared.Reading.{Reading}
 use Rattle.replay.specs.declared.Bench.{Bench}
 use Rattle.replay.specs.Machine.{Machine}
 use Rattle.replay.specs.Claims.{runNumber, runCount}
@@ -27,6 +30,13 @@ packedPrinted a = packed (printedLength a) (printedNumber a)
 
 abbrev pub printCall : ℕ → ℕ → ℕ → ℕ
 printCall flags w room = packedPrinted (printOf flags w room)
+
+-- ---- read
+abbrev pub packedReading : Reading → ℕ
+packedReading a = packed (readingWord a) (readingNumber a)
+
+abbrev pub readCall : ℕ → Text → ℕ
+readCall flags t = packedReading (readOf flags t)
 
 -- ---- encode: the description that the arguments ask for; tile elements of other than 4 or 8 bytes, or other than 2 or 4
 -- products, ask for none

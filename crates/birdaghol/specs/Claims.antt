@@ -9,10 +9,12 @@ use Rattle.isa.specs.Answers.{describe, decodeNumber}
 use Rattle.isa.specs.Claims.{OnlyWord}
 use Rattle.isa.specs.declared.Instruction.{Instruction}
 use Rattle.isa.specs.declared.Instruction.the-variants.{Zero}
+use Rattle.text.specs.Spelling.{Text}
 use Rattle.text.specs.Printing.{printNumber, printLength}
+use Rattle.reader.specs.Answers.{readNumber, readWord}
 use Rattle.replay.specs.Claims.{runNumber, runCount}
 use Rattle.replay.specs.Machine.{Machine}
-use Rattle.birdaghol.specs.Calls.{printCall, askedPredicated, askedQuarter, predicatedCall, quarterCall, zeroCall, runCall}
+use Rattle.birdaghol.specs.Calls.{printCall, readCall, askedPredicated, askedQuarter, predicatedCall, quarterCall, zeroCall, runCall}
 use Rattle.birdaghol.specs.Fields.{numbersIn, fieldCount, describeCall, fieldsAfter, encodeNumbers}
 
 -- the value is the answer divided by 256, the refusal what is left over
@@ -22,6 +24,9 @@ pub record Unpacks (answer value refusal : ℕ) : Type 0 where
 
 abbrev pub PrintUnpacks : ℕ → ℕ → List ℕ → Type 0
 PrintUnpacks flags w room = Unpacks (printCall flags w (length room)) (printLength flags w (length room)) (printNumber flags w (length room))
+
+abbrev pub ReadUnpacks : ℕ → Text → Type 0
+ReadUnpacks flags t = Unpacks (readCall flags t) (readWord flags t) (readNumber flags t)
 
 abbrev pub RunUnpacks : Machine → List ℕ → Type 0
 RunUnpacks m ws = Unpacks (runCall m ws) (runCount m ws) (runNumber m ws)

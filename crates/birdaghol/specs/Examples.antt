@@ -5,6 +5,8 @@ use mathlib.Core.List.{List, [], _∷_, _++_}
 use Prim.Native.Nat.{ℕ, _+_, _*_}
 use lib.ListN.{replicate}
 use Rattle.isa.specs.Answers.{decodeNumber}
+use Rattle.text.specs.Ascii.{ascii}
+use Rattle.text.specs.Spelling.{Text}
 use Rattle.replay.specs.Machine.{on}
 use Rattle.replay.specs.Claims.{executeNumber}
 use Rattle.birdaghol.specs.Calls.{printCall, predicatedCall, quarterCall, zeroCall, benchOf, runCall}
@@ -67,6 +69,21 @@ examples =
     ∷ record { call = ran true true 32 (0xC00800FF ∷ 0x81000010 ∷ 0xA0800000 ∷ []); gives = 256 + 7 }
     ∷ record { call = ran false true 32 (0xC00800FF ∷ 0xA0800000 ∷ []); gives = 256 + 9 }
     ∷ record { call = ran true true 31 []; gives = 4 }
+    ∷ []
+
+-- ---- reads: flags, a line, and the answer
+pub record Read : Type 0 where
+  pub flags : ℕ
+  pub line : Text
+  pub gives : ℕ
+
+abbrev pub reads : List Read
+reads =
+    record { flags = 7; line = ascii "usmop4s za2.s, { z10.b-z11.b }, { z30.b-z31.b }"; gives = 0x811E8352 * 256 }
+    ∷ record { flags = 8; line = ascii "umops za1.s, p5/m, p4/m, z14.h, z5.h"; gives = 0xA18595D9 * 256 }
+    ∷ record { flags = 7; line = ascii "umops za1.s, p5/m, p4/m, z14.h, z5.h"; gives = 8 }
+    ∷ record { flags = 7; line = ascii "umops za1.s, p5/m, p4/m, z14.h, z05.h"; gives = 13 }
+    ∷ record { flags = 16; line = []; gives = 1 }
     ∷ []
 
 -- ---- words and the numbers that describe them, with every feature on; a twelfth place stays

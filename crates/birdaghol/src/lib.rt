@@ -13,7 +13,7 @@ ghost use Rattle.replay.specs.Machine.{on};
 ghost use Rattle.replay.specs.Execution.{after, outcomeNumber};
 ghost use Rattle.replay.specs.Lists.{runLeft};
 ghost use Rattle.replay.specs.Claims.{executeNumber};
-ghost use Rattle.birdaghol.specs.Calls.{printCall, sized, operation, predicatedCall, quarterCall, zeroCall, encodeCall, benchOf, runCall};
+ghost use Rattle.birdaghol.specs.Calls.{printCall, readCall, sized, operation, predicatedCall, quarterCall, zeroCall, encodeCall, benchOf, runCall};
 ghost use Rattle.birdaghol.specs.Fields.{operationNumbers, numbersOf, fieldCount, describeCall, fieldsAfter};
 use isa::Decoded;
 use isa::Encoded;
@@ -23,6 +23,7 @@ use isa::Predicate;
 use isa::Refusal;
 use isa::Tile;
 use isa::Vector;
+use reader::Reading;
 use replay::Bench;
 use replay::Outcome;
 use text::Printed;
@@ -69,6 +70,17 @@ pub extern "C" fn birdaghol_print(flags: u32, word: u32, room: &mut [u8]) -> u64
     match text::print(flags, word, room) {
         Printed::Length(n) => n as u64 * ABOVE_REFUSAL,
         Printed::Refused(r) => isa::number(r) as u64,
+    }
+}
+
+// The word that has this text. The value is the word.
+#[no_mangle]
+pub extern "C" fn birdaghol_read(flags: u32, line: &[u8]) -> u64
+    ensures { λ r. ⌜ r ≡ readCall flags (now (line .entry)) ⌝ }
+{
+    match reader::read(flags, line) {
+        Reading::Word(w) => w as u64 * ABOVE_REFUSAL,
+        Reading::Refused(r) => isa::number(r) as u64,
     }
 }
 

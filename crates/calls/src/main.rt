@@ -7,6 +7,7 @@ use birdaghol::birdaghol_encode_quarter;
 use birdaghol::birdaghol_encode_zero;
 use birdaghol::birdaghol_execute;
 use birdaghol::birdaghol_print;
+use birdaghol::birdaghol_read;
 use birdaghol::birdaghol_run;
 use libc::STDOUT_FILENO;
 
@@ -25,6 +26,7 @@ fn main() {
     decodes();
     describes();
     prints();
+    reads();
     encodes_predicated();
     encodes_quarters();
     encodes_zero();
@@ -87,6 +89,29 @@ fn prints() {
     io::write_all(STDOUT_FILENO, &room);
     answer(b"print, no room", birdaghol_print(7, ZERO_ALL, &mut room));
     io::write_all(STDOUT_FILENO, &room);
+}
+
+// A line of each family and ZERO, then the order of the refusals.
+fn reads() {
+    answer(
+        b"read",
+        birdaghol_read(7, b"usmop4s za2.s, { z10.b-z11.b }, { z30.b-z31.b }"),
+    );
+    answer(
+        b"read, 2-way",
+        birdaghol_read(8, b"umops za1.s, p5/m, p4/m, z14.h, z5.h"),
+    );
+    answer(b"read, zero", birdaghol_read(1, b"zero { za0.d, za4.d }"));
+    answer(
+        b"read, without sme2",
+        birdaghol_read(7, b"umops za1.s, p5/m, p4/m, z14.h, z5.h"),
+    );
+    answer(
+        b"read, a leading zero",
+        birdaghol_read(7, b"umops za1.s, p5/m, p4/m, z14.h, z05.h"),
+    );
+    answer(b"read, no line", birdaghol_read(15, b""));
+    answer(b"read, flags", birdaghol_read(16, b""));
 }
 
 fn encodes_predicated() {

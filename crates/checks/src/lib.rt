@@ -15,6 +15,7 @@ pub use stream::next;
 pub use text::INPUT_ROOM;
 pub use text::digit_of;
 pub use text::field_end;
+pub use text::first;
 pub use text::hexadecimal_of;
 pub use text::input_room;
 pub use text::wide;

@@ -1,7 +1,7 @@
 // Numbers and fields of a text.
 ghost use mathlib.Core.Path.{_≡_};
 ghost use Prim.Native.Nat.{_+_, _-_, _≤_};
-ghost use lib.ListN.{length, drop, replicate};
+ghost use lib.ListN.{length, take, drop, replicate};
 ghost use Rattle.checks.specs.Text.{inputRoom, digitOf, hexadecimal, fieldLength};
 use crate::Number;
 
@@ -71,6 +71,16 @@ pub fn field_end(text: &[u8], at: usize, last: u8) -> usize
         end += 1;
     }
     end
+}
+
+// The first n bytes, or all if there are fewer.
+pub fn first(bytes: &[u8], n: usize) -> &[u8]
+    ensures { λ r. ⌜ now r ≡ take n (now (bytes .entry)) ⌝ }
+{
+    if n < bytes.len() {
+        return &bytes[0..n];
+    }
+    bytes
 }
 
 // A byte as a number of 64 bits.

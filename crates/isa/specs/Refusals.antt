@@ -1,10 +1,10 @@
--- Refusals: their numbers, and the order of tests (document 01, "Refusal numbers").
+-- Refusals: their numbers, and the order of tests (document 01, "Refusal numbers", and document 02, C-11).
 use mathlib.Core.Bool.{Bool, cond}
 use mathlib.Core.List.{List, [], _∷_}
 use mathlib.Core.Option.{Option, none, some}
 use Prim.Native.Nat.{ℕ}
 use Rattle.isa.specs.declared.Refusal.{Refusal}
-use Rattle.isa.specs.declared.Refusal.the-variants.{Flags, VectorLength, ZLength, PLength, ZaLength, ListLength, Unlisted, FeatureOff, StreamingOff, ZaOff, OutOfRange, Room}
+use Rattle.isa.specs.declared.Refusal.the-variants.{Flags, VectorLength, ZLength, PLength, ZaLength, ListLength, Unlisted, FeatureOff, StreamingOff, ZaOff, OutOfRange, Room, NotText}
 
 abbrev pub number : Refusal → ℕ
 number Flags = 1
@@ -19,6 +19,7 @@ number StreamingOff = 9
 number ZaOff = 10
 number OutOfRange = 11
 number Room = 12
+number NotText = 13
 
 -- 0 where there is none
 abbrev pub refusalNumber : Option Refusal → ℕ

@@ -31,7 +31,7 @@ const MOP4: u32 = 4;
 const SME2: u32 = 8;
 
 // Every feature on; a larger number is no sum of features.
-const ALL_FLAGS: u32 = 15;
+pub const ALL_FLAGS: u32 = 15;
 
 // Whether flags are a sum of features.
 pub fn flags_legal(flags: u32) -> bool

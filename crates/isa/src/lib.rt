@@ -4,6 +4,7 @@ mod encoder;
 mod numbers;
 mod sizes;
 
+pub use decoder::ALL_FLAGS;
 pub use decoder::decode;
 pub use decoder::decode_number;
 pub use decoder::flags_legal;
@@ -77,7 +78,7 @@ pub enum Line {
     Unlisted,
 }
 
-// Why input is refused, in the order of the tests; `number` gives each its number.
+// Why input is refused; `number` gives each its number, and each function says which it tests, and in which order.
 pub enum Refusal {
     Flags,
     VectorLength,
@@ -91,6 +92,7 @@ pub enum Refusal {
     ZaOff,
     OutOfRange,
     Room,
+    NotText,
 }
 
 pub enum Decoded {

@@ -1,4 +1,4 @@
-// The numbers of the refusals (document 01, "Refusal numbers").
+// The numbers of the refusals (document 01, "Refusal numbers", and document 02, C-11).
 ghost use mathlib.Core.Path.{_≡_};
 ghost use Rattle.isa.specs.Refusals.{number as numberOf};
 use crate::Refusal;
@@ -20,5 +20,6 @@ pub fn number(r: Refusal) -> u32
         Refusal::ZaOff => 10,
         Refusal::OutOfRange => 11,
         Refusal::Room => 12,
+        Refusal::NotText => 13,
     }
 }

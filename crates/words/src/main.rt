@@ -1,13 +1,12 @@
-// Compares print, with every feature on, with a list on standard input. A line of the list is a word in eight hex
-// digits, a space, and its text, or - if print must refuse it as unlisted; a line that starts with # is a comment.
+// Compares print, and read, with every feature on, with a list on standard input. A line of the list is a word in eight
+// hex digits, a space, and its text, or - if print must refuse it as unlisted; a line that starts with # is a comment.
 use checks::Number;
 use checks::Outcome;
 use checks::Tally;
 use libc::STDIN_FILENO;
 use libc::STDOUT_FILENO;
+use reader::Reading;
 use text::Printed;
-
-const ALL_FEATURES: u32 = 15;
 
 // Document 01's numbers of the refusals that a word of the list can get.
 const UNLISTED: u32 = 7;
@@ -78,7 +77,7 @@ fn line_outcome(line: &[u8]) -> Outcome {
 // Print agrees if it does in a room of 64 bytes, in one of the text's length, and in one a byte shorter.
 fn word_outcome(w: u32, listed: &[u8]) -> Outcome {
     let mut room = [FILL; TEXT_ROOM];
-    let agrees = match text::print(ALL_FEATURES, w, &mut room) {
+    let agrees = match text::print(isa::ALL_FLAGS, w, &mut room) {
         Printed::Length(n) => text_agrees(w, n, &room, listed),
         Printed::Refused(refusal) => refusal_agrees(w, isa::number(refusal), &room, listed),
     };
@@ -89,16 +88,20 @@ fn word_outcome(w: u32, listed: &[u8]) -> Outcome {
     }
 }
 
-// Whether n bytes printed into room are what is listed, and print keeps to rooms of n bytes and of one less.
+// Whether n bytes printed into room are what is listed, print keeps to rooms of n bytes and of one less, and what is
+// listed is read as the word.
 fn text_agrees(w: u32, n: usize, room: &[u8], listed: &[u8]) -> bool {
     if !holds(room, n, listed) {
-        return disagrees(w, b"print ", first(room, n), listed);
+        return disagrees(w, b"print ", checks::first(room, n), listed);
     }
     if !exact_room_agrees(w, n, listed) {
         return disagrees(w, b"not so in a room of its length: ", listed, listed);
     }
     if !short_room_refused(w, n) {
         return disagrees(w, b"not refused in a room a byte shorter: ", listed, listed);
+    }
+    if !reads_as(listed, w) {
+        return disagrees(w, b"not read back: ", listed, listed);
     }
     true
 }
@@ -144,12 +147,19 @@ fn short_room_refused(w: u32, n: usize) -> bool {
     }
 }
 
+fn reads_as(line: &[u8], w: u32) -> bool {
+    match reader::read(isa::ALL_FLAGS, line) {
+        Reading::Word(v) => v == w,
+        Reading::Refused(_) => false,
+    }
+}
+
 // Prints into the first n bytes of room, or into all if there are fewer.
 fn print_into(w: u32, n: usize, room: &mut [u8]) -> Printed {
     if n < room.len() {
-        return text::print(ALL_FEATURES, w, &mut room[0..n]);
+        return text::print(isa::ALL_FLAGS, w, &mut room[0..n]);
     }
-    text::print(ALL_FEATURES, w, room)
+    text::print(isa::ALL_FLAGS, w, room)
 }
 
 // Whether every byte is as the room was filled.
@@ -166,14 +176,6 @@ fn untouched(bytes: &[u8]) -> bool {
 
 fn marks_unlisted(listed: &[u8]) -> bool {
     check::same(b"-", listed)
-}
-
-// The first n bytes, or all if there are fewer.
-fn first(bytes: &[u8], n: usize) -> &[u8] {
-    if n < bytes.len() {
-        return &bytes[0..n];
-    }
-    bytes
 }
 
 // Whether a refusal is what is listed, and left room as it was; if not, a line shows both.

@@ -3,10 +3,12 @@
 
 mod execute;
 mod fields;
+mod read;
 mod text;
 
 pub use execute::{Bench, MOST_WORDS, execute, run};
 pub use fields::describe;
+pub use read::read;
 pub use text::print;
 
 /// The features, summed to flags.

@@ -3,16 +3,19 @@
 mod case;
 mod guarded;
 mod instruction;
+mod line;
 mod random;
 mod tally;
 
 pub use case::Case;
 pub use guarded::Guarded;
 pub use instruction::instruction;
+pub use line::{DAMAGES, Damage, text};
 pub use random::Random;
 pub use tally::Tally;
 
 use std::env;
+use std::iter;
 use std::ops::Range;
 
 /// The seven lines of the encoding table: the bits that are fixed, and a mask of those that are free. First the 4-way
@@ -32,6 +35,14 @@ pub fn seeds(count: u64) -> Range<u64> {
     let given = env::var("BIRDAGHOL_SEED").ok();
     let first = given.map_or(0, |seed| seed.parse().expect("a seed is a number"));
     first..first + count
+}
+
+/// Every listed word, line by line of the table.
+pub fn every_listed() -> impl Iterator<Item = u32> {
+    LINES.into_iter().flat_map(|(fixed, free)| {
+        let next = move |bits: &u32| Some(bits.wrapping_sub(free) & free).filter(|&bits| bits != 0);
+        iter::successors(Some(0), next).map(move |bits| fixed | bits)
+    })
 }
 
 /// A word of some line of the table, its fields random.

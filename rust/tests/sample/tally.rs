@@ -1,14 +1,16 @@
 //! Counts what cases came to, so that a test can't pass on refusals alone.
 
-use super::LINES;
+use super::{DAMAGES, Damage, LINES};
 use std::collections::BTreeMap;
 
-/// The accepted words under the lines of the table and under the vector lengths, and the refusals under their numbers.
+/// The accepted words under the lines of the table and under the vector lengths, the refusals under their numbers, and
+/// the damaged lines of text, with those that are texts all the same, under the sorts of damage.
 #[derive(Default)]
 pub struct Tally {
     accepted: [usize; LINES.len()],
     lengths: BTreeMap<usize, usize>,
-    refused: [usize; 13],
+    refused: [usize; 14],
+    damaged: BTreeMap<&'static str, [usize; 2]>,
 }
 
 impl Tally {
@@ -38,6 +40,13 @@ impl Tally {
         }
     }
 
+    /// Counts a damaged line under its damage, and whether it is a text all the same.
+    pub fn damage(&mut self, damage: Damage, is_text: bool) {
+        let [lines, texts] = self.damaged.entry(damage.name).or_default();
+        *lines += 1;
+        *texts += usize::from(is_text);
+    }
+
     /// Fails unless every line, and every one of these refusals, came at least so often, and no other refusal came.
     pub fn assert_covers(&self, refusals: &[u32], least: usize) {
         println!("accepted {:?}, refused {:?}", self.accepted, self.refused);
@@ -56,5 +65,16 @@ impl Tally {
         println!("accepted at vector lengths {:?}", self.lengths);
         assert!(self.lengths.keys().eq(&[16, 32, 64, 128, 256]), "other vector lengths");
         assert!(self.lengths.values().all(|&words| words >= least), "a vector length is too rare");
+    }
+
+    /// Fails unless every sort of damage was done at least so often, and left texts at least so often, or never if it
+    /// should not.
+    pub fn assert_damaged(&self, least: usize, least_texts: usize) {
+        println!("damaged lines, texts among them: {:?}", self.damaged);
+        for Damage { name, leaves_texts, .. } in DAMAGES {
+            let [lines, texts] = self.damaged.get(name).copied().unwrap_or_default();
+            assert!(lines >= least, "{name}: too rare");
+            assert!(if leaves_texts { texts >= least_texts } else { texts == 0 }, "{name}: {texts} texts");
+        }
     }
 }

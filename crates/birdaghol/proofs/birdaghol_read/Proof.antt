@@ -1,0 +1,29 @@
+-- `birdaghol::birdaghol_read` meets its contract: read's answer, packed. Assumes nothing.
+use mathlib.Core.Path.{_∙_, sym, ap}
+use Rattle.birdaghol.specs.Calls.{packedReading}
+use Rattle.birdaghol.proofs.Packing.{value-alone, refusal-alone}
+use borrow.Author.Needs.{needs}
+use Rattle.birdaghol.proofs.birdaghol_read.Statement.{statement}
+use Rattle.birdaghol.proofs.birdaghol_read.Tie as tie
+
+returns : tie.Need-returns
+returns c = value-alone _ ∙ sym (ap packedReading (sym (c .before .before .before .read .ensures .0) ∙ c .before .w .given .1))
+
+returns-2 : tie.Need-returns-2
+returns-2 c =
+    let r = c .before .before in
+    c .number .ensures ∙ refusal-alone _ ∙ sym (ap packedReading (sym (r .before .before .read .ensures .0) ∙ r .r .given .1))
+
+pub birdaghol-read-spec : {M : Type 1} → statement M
+birdaghol-read-spec =
+    tie.close
+    (tie.spec
+    (λ c κs. search needs)
+    (λ c. search needs)
+    (λ c. search needs)
+    (λ c. search needs)
+    (λ c. search needs)
+    (λ c κs. search needs)
+    (λ c. search needs)
+    returns
+    returns-2)

@@ -1,0 +1,39 @@
+-- What document 02 (C-11) asks of a read, in the paper's numbers; proofs/Theorems.antt proves it for every flags and line.
+use mathlib.Core.Path.{_≡_}
+use mathlib.Core.Logic.{_↔_}
+use mathlib.Core.List.{List}
+use Prim.Native.Nat.{ℕ, _≤_, _<_, _^_}
+use lib.ListN.{length, take}
+use Rattle.isa.specs.Table.{allFlags}
+use Rattle.isa.specs.Claims.{Listed, FeaturesOn}
+use Rattle.text.specs.Spelling.{Text}
+use Rattle.text.specs.Printing.{textOf, printNumber, printLength, roomAfter}
+use Rattle.text.specs.Claims.{OfLength, Holds}
+use Rattle.reader.specs.Answers.{readNumber, readWord}
+
+-- w is a listed word, and the line is its text
+pub record Spells (w : ℕ) (t : Text) : Type 0 where
+  pub fits : w < 2 ^ 32
+  pub listed : Listed w
+  pub text : textOf w ≡ t
+
+-- which number read answers, and which word
+pub record Reads (flags : ℕ) (t : Text) : Type 0 where
+  pub accepts : (readNumber flags t ≡ 0) ↔ (flags ≤ allFlags) × ((w : ℕ) × Spells w t × FeaturesOn flags w)
+  pub gives-1 : (readNumber flags t ≡ 1) ↔ (allFlags < flags)
+  pub gives-13 : (readNumber flags t ≡ 13) ↔ (flags ≤ allFlags) × ((w : ℕ) → Spells w t → ⊥)
+  pub gives-8 : (readNumber flags t ≡ 8) ↔ (flags ≤ allFlags) × ((w : ℕ) × Spells w t × (FeaturesOn flags w → ⊥))
+  pub word : readNumber flags t ≡ 0 → Spells (readWord flags t) t × FeaturesOn flags (readWord flags t)
+  pub refused : (readNumber flags t ≡ 0 → ⊥) → readWord flags t ≡ 0
+  pub between : readNumber flags t ≡ 0 → OfLength 1 63 t
+
+-- no two words share a line
+abbrev pub OneWord : Type 0
+OneWord = (v w : ℕ) (t : Text) → Spells v t → Spells w t → v ≡ w
+
+-- what was printed is read back, and what was read is printed again
+pub record Undo (flags : ℕ) : Type 0 where
+  pub read-printed : (w : ℕ) (room : List ℕ) → w < 2 ^ 32 → printNumber flags w (length room) ≡ 0
+      → (let t = take (printLength flags w (length room)) (roomAfter flags w room) in (readNumber flags t ≡ 0) × (readWord flags t ≡ w))
+  pub print-read : (t : Text) (room : List ℕ) → readNumber flags t ≡ 0 → length t ≤ length room
+      → (let w = readWord flags t in (printNumber flags w (length room) ≡ 0) × Holds t (printLength flags w (length room)) room (roomAfter flags w room))

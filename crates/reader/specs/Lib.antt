@@ -1,0 +1,4 @@
+pub mod Answers
+pub mod Claims
+pub mod Guess
+pub mod Examples

@@ -1,0 +1,28 @@
+// The word of a line of text: print, undone.
+mod guess;
+mod line;
+
+use isa::Refusal;
+pub use line::read;
+
+// The word of a line, or why there is none.
+pub enum Reading {
+    Word(u32),
+    Refused(Refusal),
+}
+
+// What stands in a line, as far as it was read: whether a 64-bit tile, halfword elements or a predicate was named; the
+// 64-bit tiles, as a mask; the numbers of the last five operands; and whether the last two are pairs.
+pub(crate) struct Scan {
+    wide: bool,
+    half: bool,
+    predicated: bool,
+    tiles: u8,
+    n0: u32,
+    n1: u32,
+    n2: u32,
+    n3: u32,
+    number: u32,
+    earlier: bool,
+    pair: bool,
+}
