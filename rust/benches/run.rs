@@ -8,7 +8,7 @@ mod pseudocode;
 mod sample;
 
 use birdaghol::{Bench, Ended};
-use sample::{DAMAGES, LINES, Random};
+use sample::{DAMAGES, LINES, Random, SMALL};
 use std::hint::black_box;
 use std::iter;
 use std::time::Instant;
@@ -74,7 +74,7 @@ fn texts(words: &[u32]) -> Vec<Vec<u8>> {
 
 /// The texts with a byte or a part of each damaged, so that all are refused.
 fn damaged(random: &mut Random, texts: &[Vec<u8>]) -> Vec<Vec<u8>> {
-    let mut harmed = |text: &Vec<u8>| (random.pick(&DAMAGES[..13]).harm)(random, text.clone());
+    let mut harmed = |text: &Vec<u8>| (random.pick(&DAMAGES[..SMALL]).harm)(random, text.clone());
     let refused = |line: &Vec<u8>| pseudocode::read(FLAGS, line).is_err();
     texts.iter().map(|text| iter::repeat_with(|| harmed(text)).find(refused).expect("a refused line")).collect()
 }

@@ -1,17 +1,59 @@
--- The lines that are no instructions: blank ones, of spaces and tabs (32, 9) alone, and comments, which begin with // (47).
-use mathlib.Core.Bool.{Bool, true, _&&_, _||_}
-use mathlib.Core.List.{[], _∷_}
+-- The lines of a text, what comes of each, and how many come to words or are refused.
+use mathlib.Core.Bool.{Bool, true, cond, _&&_, _||_}
+use mathlib.Core.List.{List, [], _∷_}
 use Prim.Native.Nat.{ℕ}
 use lib.Dec.{eqb}
 use lib.ListN.{getD}
+use Rattle.isa.specs.Table.{allFlags}
 use Rattle.text.specs.Spelling.{Text}
+use Rattle.reader.specs.Answers.{readOf}
+use Rattle.reader.specs.declared.Reading.{Reading}
+use Rattle.reader.specs.declared.Reading.the-variants.{Word as Read, Refused as NotRead}
+use Rattle.checks.specs.Tally.{sum}
+use Rattle.assemble.specs.declared.Line.{Line}
+use Rattle.assemble.specs.declared.Line.the-variants.{LeftOut, Word, Refused}
 
+-- a line feed (10) ends a line; what stands behind the last is a line too, if anything does
+abbrev pub withByte : ℕ → List Text → List Text
+withByte b [] = (b ∷ []) ∷ []
+withByte b (t ∷ ts) = (b ∷ t) ∷ ts
+
+unfoldable pub lines : Text → List Text
+lines [] = []
+lines (b ∷ t) = cond (eqb b 10) ([] ∷ lines t) (withByte b (lines t))
+
+-- ---- what comes of a line
 abbrev pub isSpace : ℕ → Bool
 isSpace b = eqb b 32 || eqb b 9
 
+-- nothing but spaces and tabs
 abbrev pub isBlank : Text → Bool
 isBlank [] = true
 isBlank (b ∷ t) = isSpace b && isBlank t
 
+-- // (47) at its start
 abbrev pub isComment : Text → Bool
 isComment t = eqb (getD t 0 0) 47 && eqb (getD t 1 0) 47
+
+abbrev pub asRead : Reading → Line
+asRead (Read w) = Word w
+asRead (NotRead r) = Refused r
+
+-- every feature is on
+abbrev pub lineOf : Text → Line
+lineOf t = cond (isBlank t) LeftOut (cond (isComment t) LeftOut (asRead (readOf allFlags t)))
+
+-- ---- how many of some lines come to words, and how many are refused, with n before them
+abbrev pub withWord : ℕ → Line → ℕ
+withWord n LeftOut = n
+withWord n (Word w) = sum n 1
+withWord n (Refused r) = n
+
+abbrev pub withRefused : ℕ → Line → ℕ
+withRefused n LeftOut = n
+withRefused n (Word w) = n
+withRefused n (Refused r) = sum n 1
+
+abbrev pub over : (ℕ → Line → ℕ) → ℕ → List Text → ℕ
+over f n [] = n
+over f n (t ∷ ts) = over f (f n (lineOf t)) ts

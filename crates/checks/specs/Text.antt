@@ -6,7 +6,7 @@ use lib.Dec.{eqb, ltb, leb}
 use Rattle.checks.specs.declared.Number.{Number}
 use Rattle.checks.specs.declared.Number.the-variants.{Value, Malformed}
 
--- a program's input is shorter than this
+-- the bytes that a program has for its input
 abbrev pub inputRoom : ℕ
 inputRoom = 4194304
 

@@ -1,4 +1,4 @@
-// What the check programs share: reading numbers and fields of a text, a stream of bytes, and counts of compared lines and bytes.
+// What the programs share: reading numbers and fields of a text, a stream of bytes, and counts of compared lines and bytes.
 mod counts;
 mod stream;
 mod text;

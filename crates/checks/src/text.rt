@@ -5,7 +5,7 @@ ghost use lib.ListN.{length, take, drop, replicate};
 ghost use Rattle.checks.specs.Text.{inputRoom, digitOf, hexadecimal, fieldLength};
 use crate::Number;
 
-// A program's input must be shorter than this: it holds seven of the longest lists, a word being nine bytes of text.
+// The bytes that a program has for its input: seven of the longest lists, a word being nine bytes of text.
 pub const INPUT_ROOM: usize = 4194304;
 
 // Room for it, as a function of its own: proofs take the array by its length, as it is too long to compute with.

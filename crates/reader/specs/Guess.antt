@@ -19,7 +19,19 @@ use Rattle.reader.specs.declared.Scan.{Scan}
 -- ---- what stands in a line, byte by byte
 abbrev pub fresh : Scan
 fresh =
-    record { wide = false; half = false; predicated = false; tiles = 0; n0 = 0; n1 = 0; n2 = 0; n3 = 0; number = 0; earlier = false; pair = false }
+    record {
+      wide = false;
+      half = false;
+      predicated = false;
+      tiles = 0;
+      n0 = 0;
+      n1 = 0;
+      n2 = 0;
+      n3 = 0;
+      number = 0;
+      earlier = false;
+      pair = false;
+    }
 
 -- a z or p (122, 112) starts a number anew, a digit (48 to 57) goes on; the last two digits count
 abbrev pub numberAfter : ℕ → ℕ → ℕ

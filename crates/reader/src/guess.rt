@@ -54,6 +54,7 @@ fn source_of(pair: bool, n: u32) -> Source
     isa::source_of(false, n)
 }
 
+// The number before n; 0 has none, and no line of a pair ends in it.
 fn less_one(n: u32) -> u32
     ensures { λ r. ⌜ r ≡ n - 1 ⌝ }
 {
@@ -98,6 +99,7 @@ fn last_at(one: bool, predicated: bool) -> usize
     if predicated { 5 } else { 6 }
 }
 
+// One walk for every kind of line. No line can make a number overflow.
 fn scan(line: &[u8]) -> Scan
     ensures { λ r. ⌜ r ≡ scanned fresh (now (line .entry)) ⌝ }
 {

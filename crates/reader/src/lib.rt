@@ -12,7 +12,8 @@ pub enum Reading {
 }
 
 // What stands in a line, as far as it was read: whether a 64-bit tile, halfword elements or a predicate was named; the
-// 64-bit tiles, as a mask; the numbers of the last five operands; and whether the last two are pairs.
+// 64-bit tiles, as a mask; the numbers of the last five operands, in their order, so that three of them stand from n2 on;
+// and whether the last two are pairs.
 pub(crate) struct Scan {
     wide: bool,
     half: bool,

@@ -74,7 +74,8 @@ fn line_outcome(line: &[u8]) -> Outcome {
     }
 }
 
-// Print agrees if it does in a room of 64 bytes, in one of the text's length, and in one a byte shorter.
+// A line agrees if print does in a room of 64 bytes, in one of the text's length, and in one a byte shorter, and if read
+// gives the word back.
 fn word_outcome(w: u32, listed: &[u8]) -> Outcome {
     let mut room = [FILL; TEXT_ROOM];
     let agrees = match text::print(isa::ALL_FLAGS, w, &mut room) {

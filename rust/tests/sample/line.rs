@@ -14,8 +14,11 @@ pub struct Damage {
     pub leaves_texts: bool,
 }
 
-/// The sorts of damage: first those to a byte or a part of a line, then those to the whole.
-pub const DAMAGES: [Damage; 18] = [
+/// How many sorts of damage are to a byte or a part of a line; these come first.
+pub const SMALL: usize = 14;
+
+/// The sorts of damage.
+pub const DAMAGES: [Damage; 19] = [
     Damage { name: "a byte changed", harm: change, leaves_texts: true },
     Damage { name: "a byte left out", harm: leave_out, leaves_texts: true },
     Damage { name: "a byte doubled", harm: double, leaves_texts: true },
@@ -29,6 +32,7 @@ pub const DAMAGES: [Damage; 18] = [
     Damage { name: "operands exchanged", harm: exchange_operands, leaves_texts: true },
     Damage { name: "an operand repeated", harm: repeat_operand, leaves_texts: true },
     Damage { name: "braces", harm: braces, leaves_texts: false },
+    Damage { name: "tiles in another order", harm: exchange_tiles, leaves_texts: false },
     Damage { name: "cut short", harm: cut, leaves_texts: false },
     Damage { name: "a line end", harm: line_end, leaves_texts: false },
     Damage { name: "a great length", harm: lengthen, leaves_texts: false },
@@ -156,6 +160,17 @@ fn braces(random: &mut Random, line: Vec<u8>) -> Vec<u8> {
     let mut parts = name_and_operands(&line);
     let [at, _] = two_operands(random, &parts);
     parts[at] = [b"{ ", &parts[at][..], b" }"].concat();
+    parts.concat()
+}
+
+/// Exchanges two tiles of a ZERO's list; the ZERO is another word, as few lines are one.
+fn exchange_tiles(random: &mut Random, _: Vec<u8>) -> Vec<u8> {
+    let two_tiles = |mask: &u32| mask.count_ones() > 1;
+    let mask = iter::repeat_with(|| random.u32() & 0xFF).find(two_tiles).expect("a mask");
+    let mut parts = name_and_operands(&text(0xC008_0000 | mask));
+    let (first, last) = (4, parts.len() - 3);
+    let one = first + 2 * random.below((last - first) as u64 / 2) as usize;
+    parts.swap(one, one + 2);
     parts.concat()
 }
 

@@ -10,7 +10,7 @@ mod tally;
 pub use case::Case;
 pub use guarded::Guarded;
 pub use instruction::instruction;
-pub use line::{DAMAGES, Damage, text};
+pub use line::{DAMAGES, Damage, SMALL, text};
 pub use random::Random;
 pub use tally::Tally;
 
