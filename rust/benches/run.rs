@@ -48,7 +48,7 @@ fn runs(vb: usize, rounds: usize) {
     }
 }
 
-/// The lines for listed words but the 2-way ones, for these, and for random words; then for the texts of the first two,
+/// The rows for listed words but the 2-way ones, for these, and for random words; then for the texts of the first two,
 /// and for damaged ones.
 fn rates() {
     let random = &mut Random::new(1);

@@ -85,8 +85,8 @@ fn read_damaged_lines() {
     tally.assert_damaged(10_000, 100);
 }
 
-/// Every listed word is printed and read back. The start of its text is refused, though the rest lies behind it, and
-/// the text without one of its bytes gets the same answer.
+/// Every listed word is printed and read back, on both sides. The start of its text is refused, though the rest lies
+/// behind it, and the text without one of its bytes gets the same answer.
 #[test]
 fn read_every_text() {
     let mut words = 0;
@@ -94,7 +94,7 @@ fn read_every_text() {
         let mut room = [0; 63];
         let length = birdaghol::print(15, word, &mut room).expect("a listed word");
         let (line, at) = (&room[..length], words % length);
-        assert_eq!(birdaghol::read(15, line), Ok(word), "word {word:08x}");
+        assert_eq!(read_both(format_args!("word {word:08x}"), 15, line), Ok(word), "word {word:08x}");
         assert_eq!(birdaghol::read(15, &line[..at]), Err(Refusal::NotText), "word {word:08x} up to byte {at}");
         let without = [&line[..at], &line[at + 1..]].concat();
         _ = read_both(format_args!("word {word:08x} without byte {at}"), 15, &without);

@@ -1,10 +1,10 @@
 // Assembles a kernel: a line of text on standard input for each instruction, and its word on standard output, as four
 // bytes, lowest first. Every feature is on. Blank lines, and lines that begin with //, are left out. A line that is
-// refused is told on standard error, and so is, at the end, how many words were written and how many lines refused.
+// refused is reported on standard error, and so is, at the end, how many words were written and how many lines refused.
 // Input may have 4,194,304 bytes.
 ghost use mathlib.Core.Path.{_≡_};
 ghost use Rattle.checks.specs.Tally.{sum};
-ghost use Rattle.assemble.specs.Lines.{lines, isSpace, isBlank, isComment, lineOf, withWord, withRefused, over};
+ghost use Rattle.assemble.specs.Kernel.{lines, isSpace, isBlank, isComment, assembled, wordsAfter, refusedAfter, countOver};
 use checks::one_if;
 use checks::plus;
 use isa::Refusal;
@@ -13,15 +13,22 @@ use libc::STDIN_FILENO;
 use libc::STDOUT_FILENO;
 use reader::Reading;
 
+// Standard input: so many bytes, more than there is room for, or an input that can't be read to its end.
+pub enum Input {
+    Bytes(usize),
+    TooLong,
+    Unreadable,
+}
+
 // What comes of a line.
-pub enum Line {
+pub enum Assembled {
     LeftOut,
     Word(u32),
     Refused(Refusal),
 }
 
 // How many lines came to words, how many of these were written, and how many lines were refused.
-pub struct Assembly {
+pub struct Counts {
     pub words: u64,
     pub written: u64,
     pub refused: u64,
@@ -29,38 +36,46 @@ pub struct Assembly {
 
 fn main() {
     let mut text = checks::input_room();
-    let n = io::read_full(STDIN_FILENO, &mut text);
-    if !input_taken(n) {
-        report(nothing());
-        return;
+    match read_input(&mut text) {
+        Input::Bytes(n) => report(assemble(checks::first(&text, n))),
+        Input::TooLong => {
+            tell_number(b"the input has more bytes than ", checks::INPUT_ROOM as u64);
+            tell(b", and is not assembled\n");
+            report(none());
+        }
+        Input::Unreadable => {
+            tell(b"the input can't be read to its end, and is not assembled\n");
+            report(none());
+        }
     }
-    report(assemble(&text[..n]));
 }
 
-// Whether the n bytes that were read are all of standard input. Asked only where there may be more, or where nothing
-// could be read, as a terminal would have to end its input a second time.
-fn input_taken(n: usize) -> bool {
-    if (n != 0) & (n != checks::INPUT_ROOM) {
-        return true;
+// Reads all of standard input to the start of room. A read that fails is no end: what came before it is not the kernel.
+fn read_input(room: &mut [u8]) -> Input {
+    let mut chunk = io::large_buffer();
+    let mut n = 0;
+    while n <= room.len() {
+        let got = libc::read(STDIN_FILENO, &mut chunk);
+        if got < 0 {
+            return Input::Unreadable;
+        }
+        let more = io::count(got, &chunk);
+        if more == 0 {
+            return Input::Bytes(n);
+        }
+        if room.len() - n < more {
+            return Input::TooLong;
+        }
+        bytes::copy(&chunk[..more], &mut room[n..]);
+        n += more;
     }
-    let mut byte = [0u8; 1];
-    let left = libc::read(STDIN_FILENO, &mut byte);
-    if left < 0 {
-        tell(b"standard input can't be read\n");
-        return false;
-    }
-    if 0 < left {
-        tell_number(b"the input has more bytes than ", checks::INPUT_ROOM as u64);
-        tell(b", and nothing of it is assembled\n");
-        return false;
-    }
-    true
+    Input::TooLong
 }
 
-fn nothing() -> Assembly
+fn none() -> Counts
     ensures { λ r. ⌜ (r .words ≡ 0) × (r .refused ≡ 0) ⌝ }
 {
-    Assembly {
+    Counts {
         words: 0,
         written: 0,
         refused: 0,
@@ -68,47 +83,49 @@ fn nothing() -> Assembly
 }
 
 // Each line in turn; the last may have no line feed.
-fn assemble(text: &[u8]) -> Assembly
-    ensures { λ r. ⌜ (r .words ≡ over withWord 0 (lines (now (text .entry)))) × (r .refused ≡ over withRefused 0 (lines (now (text .entry)))) ⌝ }
+fn assemble(text: &[u8]) -> Counts
+    ensures { λ r. ⌜ r .words ≡ countOver wordsAfter 0 (lines (now (text .entry))) ⌝ }
+    ensures { λ r. ⌜ r .refused ≡ countOver refusedAfter 0 (lines (now (text .entry))) ⌝ }
 {
-    let mut a = nothing();
+    let mut counts = none();
     let mut line_number: u64 = 0;
     let mut at = 0;
     while at < text.len() {
         let end = checks::field_end(text, at, b'\n');
         line_number = plus(line_number, 1);
-        a = with_line(a, line_number, &text[at..end]);
+        counts = take_line(counts, line_number, &text[at..end]);
         if end == text.len() {
-            return a;
+            return counts;
         }
         at = end + 1;
     }
-    a
+    counts
 }
 
-// With one line more, which is lent without its line feed.
-fn with_line(a: Assembly, line_number: u64, line: &[u8]) -> Assembly
-    ensures { λ r. ⌜ (r .words ≡ withWord (a .words) (lineOf (now (line .entry)))) × (r .refused ≡ withRefused (a .refused) (lineOf (now (line .entry)))) ⌝ }
+// Counts one line more, which is lent without its line feed, and writes its word or reports its refusal.
+fn take_line(counts: Counts, line_number: u64, line: &[u8]) -> Counts
+    ensures { λ r. ⌜ r .words ≡ wordsAfter (counts .words) (assembled (now (line .entry))) ⌝ }
+    ensures { λ r. ⌜ r .refused ≡ refusedAfter (counts .refused) (assembled (now (line .entry))) ⌝ }
 {
-    match line_of(line) {
-        Line::LeftOut => a,
-        Line::Word(w) => with_word(a, w),
-        Line::Refused(r) => with_refusal(a, line_number, r),
+    match assemble_line(line) {
+        Assembled::LeftOut => counts,
+        Assembled::Word(w) => take_word(counts, w),
+        Assembled::Refused(refusal) => take_refusal(counts, line_number, refusal),
     }
 }
 
-fn line_of(line: &[u8]) -> Line
-    ensures { λ r. ⌜ r ≡ lineOf (now (line .entry)) ⌝ }
+fn assemble_line(line: &[u8]) -> Assembled
+    ensures { λ r. ⌜ r ≡ assembled (now (line .entry)) ⌝ }
 {
     if is_blank(line) {
-        return Line::LeftOut;
+        return Assembled::LeftOut;
     }
     if is_comment(line) {
-        return Line::LeftOut;
+        return Assembled::LeftOut;
     }
     match reader::read(isa::ALL_FLAGS, line) {
-        Reading::Word(w) => Line::Word(w),
-        Reading::Refused(r) => Line::Refused(r),
+        Reading::Word(w) => Assembled::Word(w),
+        Reading::Refused(r) => Assembled::Refused(r),
     }
 }
 
@@ -140,19 +157,22 @@ fn is_comment(line: &[u8]) -> bool
     (line[0] == b'/') & (line[1] == b'/')
 }
 
-fn with_word(a: Assembly, w: u32) -> Assembly
-    ensures { λ r. ⌜ (r .words ≡ sum (a .words) 1) × (r .refused ≡ a .refused) ⌝ }
+fn take_word(counts: Counts, w: u32) -> Counts
+    ensures { λ r. ⌜ r .words ≡ sum (counts .words) 1 ⌝ }
+    ensures { λ r. ⌜ r .refused ≡ counts .refused ⌝ }
 {
-    Assembly {
-        words: plus(a.words, 1),
-        written: plus(a.written, one_if(is_written(a, w))),
-        refused: a.refused,
+    let written = write_word(counts, w);
+    Counts {
+        words: plus(counts.words, 1),
+        written: plus(counts.written, one_if(written)),
+        refused: counts.refused,
     }
 }
 
-// Whether a word could be written. Behind one that could not, none is: the words would stand in wrong places.
-fn is_written(a: Assembly, w: u32) -> bool {
-    if a.written != a.words {
+// Writes a word, and answers whether it could. Behind one that could not be written none is: it would stand in the
+// wrong place.
+fn write_word(counts: Counts, w: u32) -> bool {
+    if counts.written != counts.words {
         return false;
     }
     let mut bytes = [0u8; 4];
@@ -160,15 +180,16 @@ fn is_written(a: Assembly, w: u32) -> bool {
     io::write_all(STDOUT_FILENO, &bytes)
 }
 
-fn with_refusal(a: Assembly, line_number: u64, r: Refusal) -> Assembly
-    ensures { λ r. ⌜ (r .words ≡ a .words) × (r .refused ≡ sum (a .refused) 1) ⌝ }
+fn take_refusal(counts: Counts, line_number: u64, refusal: Refusal) -> Counts
+    ensures { λ r. ⌜ r .words ≡ counts .words ⌝ }
+    ensures { λ r. ⌜ r .refused ≡ sum (counts .refused) 1 ⌝ }
 {
     tell_number(b"line ", line_number);
-    tell_refusal(isa::number(r));
-    Assembly {
-        words: a.words,
-        written: a.written,
-        refused: plus(a.refused, 1),
+    tell_refusal(isa::number(refusal));
+    Counts {
+        words: counts.words,
+        written: counts.written,
+        refused: plus(counts.refused, 1),
     }
 }
 
@@ -183,15 +204,15 @@ fn tell_refusal(number: u32) {
 }
 
 // The counts come last. Words that are not all of the kernel must not pass for it.
-fn report(a: Assembly) {
-    if a.refused != 0 {
+fn report(counts: Counts) {
+    if counts.refused != 0 {
         tell(b"the words are not the whole kernel: lines were refused\n");
     }
-    if a.written != a.words {
+    if counts.written != counts.words {
         tell(b"the words are not the whole kernel: standard output did not take them all\n");
     }
-    tell_number(b"words written: ", a.written);
-    tell_number(b", lines refused: ", a.refused);
+    tell_number(b"words written: ", counts.written);
+    tell_number(b", lines refused: ", counts.refused);
     tell(b"\n");
 }
 

@@ -1,7 +1,7 @@
 // Prints every listed word, of every line of the table, and reads each line back. It writes how many lines and bytes that
 // made, the sum of all bytes, and how many lines came back as their words. What it must write comes from tools/listing,
 // which makes the texts from document 01's table, C-14's two lines and the rules of text alone; LLVM 22 disassembles each of
-// the 7,368,960 words to the same text, and assembles each text to its word.
+// the 7,368,960 words to the same text.
 ghost use Prim.Native.Nat.{_+_, _≤_};
 use checks::one_if;
 use checks::part;

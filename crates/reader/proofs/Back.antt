@@ -1,6 +1,6 @@
 -- The guess gives every instruction in range back from its line. Assumes nothing.
-use mathlib.Core.Path.{_≡_, _∙_, sym, ap, refl}
-use mathlib.Core.Bool.{Bool, true, false, not, cond, _&&_, _||_}
+use mathlib.Core.Path.{_≡_, _∙_, ap, refl}
+use mathlib.Core.Bool.{Bool, true, false, false≢true, not, cond, _&&_, _||_}
 use mathlib.Core.List.{List, [], _∷_, _++_}
 use Prim.Native.Nat.{ℕ, _+_, _*_, _/_, _%_, _<_}
 use native.Mathlib.Omega.{arith}
@@ -102,19 +102,20 @@ abbrev bytesBy : Bool → ℕ
 bytesBy half = cond half 2 1
 
 abbrev vectored : Scan → Bool → ℕ → Scan
-vectored s half n = numbered (record {
-  wide = s .wide;
-  half = half || s .half;
-  predicated = s .predicated;
-  tiles = s .tiles;
-  n0 = s .n0;
-  n1 = s .n1;
-  n2 = s .n2;
-  n3 = s .n3;
-  number = s .number;
-  earlier = s .earlier;
-  pair = s .pair;
-}) n
+vectored s half n =
+    record {
+      wide = s .wide;
+      half = half || s .half;
+      predicated = s .predicated;
+      tiles = s .tiles;
+      n0 = s .n0;
+      n1 = s .n1;
+      n2 = s .n2;
+      n3 = s .n3;
+      number = n;
+      earlier = s .earlier;
+      pair = s .pair;
+    }
 
 name-scan : (s : Scan) (half : Bool) (n : ℕ) → n < 100 → scanned s (vectorName (bytesBy half) n) ≡ vectored s half n
 unfolding scanned
@@ -240,24 +241,20 @@ first-operand s t {ts} p q = scanned-append s t (further ts) ∙ ap (λ (x : Sca
 abbrev halves : Operation → Bool
 halves op = op .«two_way» || op .wide
 
-source-bytes : (op : Operation) → isFormed op ≡ true → sourceBytes op ≡ bytesBy (halves op)
-source-bytes op h = go (op .wide) (op .«two_way») h
-  where
-    go : (wide two : Bool) → cond two (not wide && eqb (bit (op .u0)) (bit (op .u1))) true ≡ true → cond wide 8 4 / cond two 2 4 ≡ bytesBy (two || wide)
-    go false false e = refl
-    go true false e = refl
-    go false true e = refl
-    go true true e = let z : true ≡ false = sym e in cc
+-- a shape's halfwords, named with two sources, tell which it is
+record Shaped (op : Operation) : Type 0 where
+  bytes : sourceBytes op ≡ bytesBy (halves op)
+  two-way : (halves op || (halves op || false)) && not (op .wide) ≡ op .«two_way»
 
-two-way-back : (op : Operation) → isFormed op ≡ true → (halves op || (halves op || false)) && not (op .wide) ≡ op .«two_way»
-two-way-back op h = go (op .wide) (op .«two_way») h
+shaped : (op : Operation) → isFormed op ≡ true → Shaped op
+shaped op h = let (b, t) = go (op .wide) (op .«two_way») h in record { bytes = b; two-way = t }
   where
     go : (wide two : Bool) → cond two (not wide && eqb (bit (op .u0)) (bit (op .u1))) true ≡ true
-        → ((two || wide) || ((two || wide) || false)) && not wide ≡ two
-    go false false e = refl
-    go true false e = refl
-    go false true e = refl
-    go true true e = let z : true ≡ false = sym e in cc
+        → (cond wide 8 4 / cond two 2 4 ≡ bytesBy (two || wide)) × (((two || wide) || ((two || wide) || false)) && not wide ≡ two)
+    go false false e = (refl, refl)
+    go true false e = (refl, refl)
+    go false true e = (refl, refl)
+    go true true e = absurd (false≢true e)
 
 -- ---- each kind of instruction
 predicated-back : (op : Operation) (tile : Tile) (pn pm : Predicate) (zn zm : Vector) → inRange (Predicated op tile pn pm zn zm) ≡ true
@@ -265,9 +262,9 @@ predicated-back : (op : Operation) (tile : Tile) (pn pm : Predicate) (zn zm : Ve
 unfolding spelling
 predicated-back op tile pn pm zn zm h =
     let f = predicated-range op tile pn pm zn zm h in
-    let o = every-all (ranges (Predicated op tile pn pm zn zm)) h .0 in
+    let o = shaped op (every-all (ranges (Predicated op tile pn pm zn zm)) h .0) in
     let k = halves op in
-    rw (source-bytes op o)
+    rw (o .bytes)
     (outer-back false op _ _ _ (named false op _)
     (first-operand (behindName false) (tileName (cond (op .wide) 8 4) tile) (tile-scan 0 (op .wide) tile (omega (arith, f)))
     (behind (predicateName pn) (predicate-scan _ pn (omega (arith, f)))
@@ -275,7 +272,7 @@ predicated-back op tile pn pm zn zm h =
     (behind (vectorName (bytesBy k) (zn .0)) (vector-scan _ k (zn .0) (omega (arith, f)))
     (behind (vectorName (bytesBy k) (zm .0)) (vector-scan _ k (zm .0) (omega (arith, f)))
     none-behind)))))
-    refl (two-way-back op o) refl)
+    refl (o .two-way) refl)
 
 source-back : (r : Source) → sourceOf (isPair r) (lastNumber r) ≡ r
 source-back (One v) = refl
@@ -286,15 +283,15 @@ quarter-back : (op : Operation) (tile : Tile) (first second : Source) → inRang
 unfolding spelling
 quarter-back op tile first second h =
     let f = quarter-range op tile first second h in
-    let o = every-all (ranges (Quarter op tile first second)) h .0 in
+    let o = shaped op (every-all (ranges (Quarter op tile first second)) h .0) in
     let k = halves op in
-    rw (source-bytes op o)
+    rw (o .bytes)
     (outer-back true op _ _ _ (named true op _)
     (first-operand (behindName true) (tileName (cond (op .wide) 8 4) tile) (tile-scan 4 (op .wide) tile (omega (arith, f)))
     (behind (sourceName (bytesBy k) first) (source-scan _ k first (omega (arith, f)))
     (behind (sourceName (bytesBy k) second) (source-scan _ k second (omega (arith, f)))
     none-behind)))
-    refl (two-way-back op o) refl
+    refl (o .two-way) refl
     ∙ rw (source-back first, source-back second))
 
 -- ZERO: every mask's line, computed

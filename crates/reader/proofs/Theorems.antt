@@ -1,10 +1,12 @@
 -- What document 02 (C-11) asks of a read: the claims of specs/Claims.antt hold for every flags and line. Assumes nothing.
 use mathlib.Core.Path.{_≡_, _∙_, sym, ap, refl, subst}
 use mathlib.Core.Bool.{Bool, true, false}
+use mathlib.Core.List.{List}
 use mathlib.Core.Option.{Option, none, some}
 use Prim.Native.Nat.{ℕ, _≤_, _<_, _^_}
 use native.Mathlib.Omega.{arith}
 use lib.Dec.{eqb, ltb}
+use lib.ListN.{length, take}
 use borrow.Author.Tests.{eq-eqb, ne-eqb, eqb-true, eqb-false, ltb-true, ltb-false}
 use Rattle.isa.specs.Table.{allFlags}
 use Rattle.isa.specs.Claims.{FeaturesOn}
@@ -12,14 +14,14 @@ use Rattle.isa.specs.Answers.{missing, decodedNumber}
 use Rattle.isa.specs.declared.Refusal.the-variants.{Flags, FeatureOff, NotText}
 use Rattle.isa.proofs.Theorems.{decodes, describes}
 use Rattle.text.specs.Spelling.{Text}
-use Rattle.text.specs.Printing.{textOf, printNumber}
+use Rattle.text.specs.Printing.{textOf, printNumber, printLength, roomAfter}
 use Rattle.text.specs.Claims.{OfLength}
 use Rattle.text.proofs.Lengths.{line-between}
 use Rattle.text.proofs.Theorems.{prints}
 use Rattle.reader.specs.declared.Reading.{Reading}
 use Rattle.reader.specs.declared.Reading.the-variants.{Word, Refused}
-use Rattle.reader.specs.Answers.{hasText, wordWith, readOf, readingNumber, readingWord, readWord}
-use Rattle.reader.specs.Claims.{Spells, Reads, OneWord, Undo}
+use Rattle.reader.specs.Answers.{hasText, wordWith, readOf, readingNumber, readingWord, readNumber, readWord}
+use Rattle.reader.specs.Claims.{Spells, Reads, OneWord, OneSpelling, ReadAs, PrintedAs, Undo}
 use Rattle.reader.proofs.Words.{described-text, has-text, text-had, one-word, with-some, with-none, with-is}
 use Rattle.reader.proofs.Readings.{read-flags, read-none, read-some, decodes-all}
 
@@ -129,19 +131,34 @@ reads flags t =
 pub no-two-words : OneWord
 no-two-words v w t p q = one-word v w t (p .fits) (q .fits) (tested p) (tested q)
 
+-- no word is read from two lines
+pub no-second-spelling : OneSpelling
+no-second-spelling f g s t p q e = sym (reads f s .word p .0 .text) ∙ ap textOf e ∙ reads g t .word q .0 .text
+
 -- printing and reading undo each other
-pub undo : (flags : ℕ) → Undo flags
-undo flags =
-    record {
-      read-printed =
-          λ w room h z.
-          let (f, l, o) = decodes flags w .accepts .0 (prints flags w room .accepts .0 z .0) in
-          let r = word-when flags (textOf w) w f (record { fits = h; listed = l; text = refl }) o in
-          rw (prints flags w room .printed z .text) (ap readingNumber r, ap readingWord r);
-      print-read =
-          λ t room e h.
-          let (f, s, o) = of-0 flags t (readOf flags t) (outcome flags t) e in
-          let w = readWord flags t in
-          let z : printNumber flags w _ ≡ 0 = prints flags w room .accepts .1 (decodes flags w .accepts .1 (f, s .listed, o), rw (s .text) h) in
-          (z, rw (s .text) at (prints flags w room .printed z));
-    }
+module _ (flags : ℕ) where
+  read-printed : (w : ℕ) (room : List ℕ) → w < 2 ^ 32 → printNumber flags w (length room) ≡ 0
+      → ReadAs flags w (take (printLength flags w (length room)) (roomAfter flags w room))
+  read-printed w room h z =
+      let (f, l, o) = decodes flags w .accepts .0 (prints flags w room .accepts .0 z .0) in
+      let r = word-when flags (textOf w) w f (record { fits = h; listed = l; text = refl }) o in
+      rw (prints flags w room .printed z .text) (ap readingNumber r, ap readingWord r)
+
+  print-read : (t : Text) (room : List ℕ) → readNumber flags t ≡ 0 → length t ≤ length room → PrintedAs flags (readWord flags t) t room
+  print-read t room e h =
+      let (f, s, o) = of-0 flags t (readOf flags t) (outcome flags t) e in
+      let w = readWord flags t in
+      let z : printNumber flags w _ ≡ 0 = prints flags w room .accepts .1 (decodes flags w .accepts .1 (f, s .listed, o), rw (s .text) h) in
+      (z, rw (s .text) at (prints flags w room .printed z))
+
+  pub undo : Undo flags
+  undo =
+      record {
+        read-printed = read-printed;
+        print-read = print-read;
+        printed-lines =
+            λ t. (
+              λ e. (readWord flags t, reads flags t .word e .0 .fits, (t, print-read t t e (omega arith))),
+              λ p. let (w, h, q) = p in let (room, k) = q in rw (k .1 .text) at (read-printed w room h (k .0) .0),
+            );
+      }

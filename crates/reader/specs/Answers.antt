@@ -38,6 +38,7 @@ abbrev pub noWord : Option ℕ → Bool
 noWord none = true
 noWord (some w) = false
 
+-- nothing where there is no word, as 13 is tested before
 abbrev pub missingOf : ℕ → Option ℕ → ℕ
 missingOf flags none = 0
 missingOf flags (some w) = missing flags w
@@ -49,7 +50,7 @@ readTests flags o =
     ∷ record { fails = not (eqb (missingOf flags o) 0); gives = FeatureOff }
     ∷ []
 
--- a refusal, or the word; the last line is there for form, as a line without a word fails its test
+-- a refusal, or the word; the last clause is there for form, as a line without a word fails test 13
 abbrev pub answered : Option Refusal → Option ℕ → Reading
 answered (some r) o = Refused r
 answered none (some w) = Word w

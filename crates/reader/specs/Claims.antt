@@ -31,6 +31,10 @@ pub record Reads (flags : ℕ) (t : Text) : Type 0 where
 abbrev pub OneWord : Type 0
 OneWord = (v w : ℕ) (t : Text) → Spells v t → Spells w t → v ≡ w
 
+-- and no word is read from two lines
+abbrev pub OneSpelling : Type 0
+OneSpelling = (f g : ℕ) (s t : Text) → readNumber f s ≡ 0 → readNumber g t ≡ 0 → readWord f s ≡ readWord g t → s ≡ t
+
 -- a line is read as w, and w is printed as this text into a room
 abbrev pub ReadAs : ℕ → ℕ → Text → Type 0
 ReadAs flags w t = (readNumber flags t ≡ 0) × (readWord flags t ≡ w)
@@ -38,8 +42,9 @@ ReadAs flags w t = (readNumber flags t ≡ 0) × (readWord flags t ≡ w)
 abbrev pub PrintedAs : ℕ → ℕ → Text → List ℕ → Type 0
 PrintedAs flags w t room = (printNumber flags w (length room) ≡ 0) × Holds t (printLength flags w (length room)) room (roomAfter flags w room)
 
--- what was printed is read back, and what was read is printed again
+-- what was printed is read back, and what was read is printed again: the lines that are read are those that are printed
 pub record Undo (flags : ℕ) : Type 0 where
   pub read-printed : (w : ℕ) (room : List ℕ) → w < 2 ^ 32 → printNumber flags w (length room) ≡ 0
       → ReadAs flags w (take (printLength flags w (length room)) (roomAfter flags w room))
   pub print-read : (t : Text) (room : List ℕ) → readNumber flags t ≡ 0 → length t ≤ length room → PrintedAs flags (readWord flags t) t room
+  pub printed-lines : (t : Text) → (readNumber flags t ≡ 0) ↔ ((w : ℕ) × (w < 2 ^ 32) × ((room : List ℕ) × PrintedAs flags w t room))

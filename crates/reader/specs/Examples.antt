@@ -20,6 +20,7 @@ examples =
     ∷ record { flags = 7; line = ascii "sumops za3.s, p2/m, p5/m, z3.b, z17.b"; number = 0; word = 0xA0B1A873 }
     ∷ record { flags = 7; line = ascii "smopa za7.d, p1/m, p6/m, z9.h, z10.h"; number = 0; word = 0xA0CAC527 }
     ∷ record { flags = 8; line = ascii "umops za1.s, p5/m, p4/m, z14.h, z5.h"; number = 0; word = 0xA18595D9 }
+    ∷ record { flags = 7; line = ascii "umops za3.s, p7/m, p7/m, z31.b, z31.b"; number = 0; word = 0xA1BFFFF3 }
     ∷ record { flags = 7; line = ascii "usmop4s za2.s, { z10.b-z11.b }, { z30.b-z31.b }"; number = 0; word = 0x811E8352 }
     ∷ record { flags = 7; line = ascii "smop4a za3.s, z14.b, { z16.b-z17.b }"; number = 0; word = 0x801081C3 }
     ∷ record { flags = 7; line = ascii "sumop4s za0.d, z0.h, z16.h"; number = 0; word = 0xA0E00018 }
@@ -42,6 +43,8 @@ examples =
     ∷ record { flags = 15; line = ascii "zero {} "; number = 13; word = 0 }
     ∷ record { flags = 15; line = ascii "zero  {}"; number = 13; word = 0 }
     ∷ record { flags = 15; line = ascii "zero {}\n"; number = 13; word = 0 }
+    ∷ record { flags = 15; line = ascii "zero {}\r"; number = 13; word = 0 }
+    ∷ record { flags = 15; line = ascii "zero {"; number = 13; word = 0 }
     ∷ record { flags = 15; line = ascii "ZERO {}"; number = 13; word = 0 }
     ∷ record { flags = 15; line = ascii "zero { ZA0.d }"; number = 13; word = 0 }
     ∷ record { flags = 15; line = ascii "zero { za4.d, za0.d }"; number = 13; word = 0 }
@@ -52,6 +55,7 @@ examples =
     ∷ record { flags = 15; line = ascii "sumops za100.s, p0/m, p0/m, z0.b, z0.b"; number = 13; word = 0 }
     ∷ record { flags = 15; line = ascii "sumops za4.s, p0/m, p0/m, z0.b, z0.b"; number = 13; word = 0 }
     ∷ record { flags = 15; line = ascii "sumops za0.s, p8/m, p0/m, z0.b, z0.b"; number = 13; word = 0 }
+    ∷ record { flags = 15; line = ascii "sumops za0.s, p0/m, p0/m, z0.b, z32.b"; number = 13; word = 0 }
     ∷ record { flags = 15; line = ascii "sumops za0.s, p0/z, p0/m, z0.b, z0.b"; number = 13; word = 0 }
     ∷ record { flags = 15; line = ascii "sumops za0.s, p0/m, p0/m, z0.h, z0.b"; number = 13; word = 0 }
     ∷ record { flags = 15; line = ascii "sumops za0.s, p0/m, p0/m, z0.h, z0.h"; number = 13; word = 0 }
@@ -60,6 +64,7 @@ examples =
     ∷ record { flags = 15; line = ascii "usmop4s za0.s, z1.b, z16.b"; number = 13; word = 0 }
     ∷ record { flags = 15; line = ascii "usmop4s za0.s, z16.b, z0.b"; number = 13; word = 0 }
     ∷ record { flags = 15; line = ascii "usmop4s za2.s, { z10.b-z12.b }, { z30.b-z31.b }"; number = 13; word = 0 }
+    ∷ record { flags = 15; line = ascii "usmop4s za2.s, { z10.b-z11.h }, { z30.b-z31.b }"; number = 13; word = 0 }
     ∷ record { flags = 15; line = ascii "usmop4s za2.s, {z10.b-z11.b}, { z30.b-z31.b }"; number = 13; word = 0 }
     ∷ record { flags = 15; line = ascii "usmop4s za2.s, { z10.b, z11.b }, { z30.b-z31.b }"; number = 13; word = 0 }
     ∷ []

@@ -1,5 +1,5 @@
--- The instruction that a line can only spell, if it spells any, and what is answered of its word: the words of private
--- contracts. No public contract and no claim cites this page.
+-- The instruction that a line can only spell, if it spells any, and what is answered of its word. Private contracts alone
+-- cite this page.
 use mathlib.Core.Bool.{Bool, false, not, cond, _&&_, _||_}
 use mathlib.Core.List.{[], _∷_}
 use Prim.Native.Nat.{ℕ, _+_, _-_, _*_, _%_, _^_}

@@ -38,7 +38,7 @@ fn decide(w: u32, spelt: bool, allowed: bool) -> Reading
     Reading::Word(w)
 }
 
-// Whether a word is listed and has this text.
+// Whether a word is listed and has this text. A text has at most 63 bytes, so that no room is too short for it.
 fn has_text(w: u32, line: &[u8]) -> bool
     ensures { λ r. ⌜ r ≡ hasText w (now (line .entry)) ⌝ }
 {

@@ -1,4 +1,4 @@
-// Compares print, and read, with every feature on, with a list on standard input. A line of the list is a word in eight
+// Compares print and read, with every feature on, with a list on standard input. A line of the list is a word in eight
 // hex digits, a space, and its text, or - if print must refuse it as unlisted; a line that starts with # is a comment.
 use checks::Number;
 use checks::Outcome;

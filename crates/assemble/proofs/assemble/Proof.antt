@@ -1,50 +1,57 @@
 -- `assemble::assemble` meets its contract: what was counted, and the lines from the next place on, make the whole. Assumes nothing.
-use mathlib.Core.Path.{_≡_, _∙_, sym, ap, refl}
+use mathlib.Core.Path.{_≡_, _∙_, sym}
 use mathlib.Core.List.{List}
 use Prim.Native.Nat.{ℕ, _+_, _-_, _≤_}
 use native.Mathlib.Omega.{arith}
-use lib.ListN.{length, drop}
-use Rattle.assemble.specs.Lines.{lines, withWord, withRefused, over}
-use Rattle.assemble.proofs.Lines.{over-line, over-end}
+use lib.ListN.{length, take, drop}
+use Rattle.assemble.specs.declared.Assembled.{Assembled}
+use Rattle.assemble.specs.Kernel.{lines, assembled, wordsAfter, refusedAfter, countOver}
+use Rattle.assemble.proofs.Kernel.{count-line, count-end}
 use Rattle.assemble.proofs.assemble.Statement.{statement}
 use Rattle.assemble.proofs.assemble.Tie as tie
 
+-- n counted, and the lines of a text from a place on, make what all its lines do
+abbrev Whole : (ℕ → Assembled → ℕ) → List ℕ → ℕ → ℕ → Type 0
+Whole f text at n = countOver f n (lines (drop at text)) ≡ countOver f 0 (lines text)
+
 abbrev Inv-loop : tie.InvT-loop
-Inv-loop text a₀ number₀ at₀ a number at =
-    (at ≤ length text)
-    × (over withWord (a .words) (lines (drop at text)) ≡ over withWord 0 (lines text))
-    × (over withRefused (a .refused) (lines (drop at text)) ≡ over withRefused 0 (lines text))
+Inv-loop text counts₀ number₀ at₀ counts number at =
+    (at ≤ length text) × Whole wordsAfter text at (counts .words) × Whole refusedAfter text at (counts .refused)
 
 abbrev μ-loop : tie.MeasureT-loop
-μ-loop text a₀ number₀ at₀ a number at = length text - at
+μ-loop text counts₀ number₀ at₀ counts number at = length text - at
 
 loop-holds : tie.Need-loop-holds Inv-loop μ-loop
-loop-holds c = (omega arith, rw (c .nothing .ensures .0), rw (c .nothing .ensures .1))
+loop-holds c = (omega arith, rw (c .none .ensures .0), rw (c .none .ensures .1))
 
 -- a turn counts the line that ends at `end`
-module _ (c : tie.After-with-line Inv-loop μ-loop) where
-  abbrev end : ℕ
-  end = c .before .before .before .field-end .result
-
+module _ (c : tie.After-take-line Inv-loop μ-loop) where
   abbrev text : List ℕ
   text = c .before .before .before .before .before .before .before .before .args .text .now
 
-  words-counted : over withWord (c .with-line .result .words) (lines (drop (end + 1) text)) ≡ over withWord 0 (lines text)
-  words-counted =
-      let l = c .before .before .before .before .before .loop in
-      let e = c .before .before .before .field-end .ensures .0 in
-      over-line withWord (l .a .words) _ text (l .at) end (omega arith) e (c .with-line .ensures .0) ∙ l .inv .1
+  abbrev at : ℕ
+  at = c .before .before .before .before .before .loop .at
 
-  refused-counted : over withRefused (c .with-line .result .refused) (lines (drop (end + 1) text)) ≡ over withRefused 0 (lines text)
-  refused-counted =
-      let l = c .before .before .before .before .before .loop in
-      let e = c .before .before .before .field-end .ensures .0 in
-      over-line withRefused (l .a .refused) _ text (l .at) end (omega arith) e (c .with-line .ensures .1) ∙ l .inv .2
+  abbrev end : ℕ
+  end = c .before .before .before .field-end .result
+
+  counted : (f : ℕ → Assembled → ℕ) (n m : ℕ) → m ≡ f n (assembled (take (end - at) (drop at text))) → Whole f text at n → Whole f text (end + 1) m
+  counted f n m p q = count-line f n m text at end (omega arith) (c .before .before .before .field-end .ensures .0) p ∙ q
+
+  words-counted : Whole wordsAfter text (end + 1) (c .take-line .result .words)
+  words-counted = counted wordsAfter _ _ (c .take-line .ensures .0) (c .before .before .before .before .before .loop .inv .1)
+
+  refused-counted : Whole refusedAfter text (end + 1) (c .take-line .result .refused)
+  refused-counted = counted refusedAfter _ _ (c .take-line .ensures .1) (c .before .before .before .before .before .loop .inv .2)
+
+-- where no line is left, what was counted is all
+all-counted : (f : ℕ → Assembled → ℕ) (text : List ℕ) (at n : ℕ) → length text ≤ at → Whole f text at n → n ≡ countOver f 0 (lines text)
+all-counted f text at n h p = sym (count-end f n text at h) ∙ p
 
 returns : tie.Need-returns Inv-loop μ-loop
 returns c =
     let b = c .before in
-    (sym (over-end withWord _ (text b) (end b + 1) (omega arith)) ∙ words-counted b, sym (over-end withRefused _ (text b) (end b + 1) (omega arith)) ∙ refused-counted b)
+    (all-counted wordsAfter (text b) (end b + 1) _ (omega arith) (words-counted b), all-counted refusedAfter (text b) (end b + 1) _ (omega arith) (refused-counted b))
 
 loop-again : tie.Need-loop-again Inv-loop μ-loop
 loop-again c = (omega arith, words-counted (c .before), refused-counted (c .before))
@@ -53,7 +60,7 @@ returns-2 : tie.Need-returns-2 Inv-loop μ-loop
 returns-2 c =
     let l = c .before .loop in
     let t = c .before .before .before .before .args .text .now in
-    (sym (over-end withWord _ t (l .at) (omega arith)) ∙ l .inv .1, sym (over-end withRefused _ t (l .at) (omega arith)) ∙ l .inv .2)
+    (all-counted wordsAfter t (l .at) _ (omega arith) (l .inv .1), all-counted refusedAfter t (l .at) _ (omega arith) (l .inv .2))
 
 pub assemble-spec : {M : Type 1} → statement M
 assemble-spec =

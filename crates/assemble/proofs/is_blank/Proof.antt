@@ -4,8 +4,8 @@ use Prim.Native.Nat.{_-_}
 use native.Mathlib.Omega.{arith}
 use borrow.Author.Tests.{not-true, not-false}
 use lib.ListN.{length, drop}
-use Rattle.assemble.specs.Lines.{isBlank}
-use Rattle.assemble.proofs.Lines.{blank-more, not-blank, blank-over}
+use Rattle.assemble.specs.Kernel.{isBlank}
+use Rattle.assemble.proofs.Kernel.{blank-more, not-blank, blank-over}
 use Rattle.assemble.proofs.is_blank.Statement.{statement}
 use Rattle.assemble.proofs.is_blank.Tie as tie
 

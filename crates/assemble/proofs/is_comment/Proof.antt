@@ -1,7 +1,7 @@
 -- `assemble::is_comment` meets its contract: a shorter line is none. Assumes nothing.
 use mathlib.Core.Path.{sym}
 use borrow.Author.Needs.{needs}
-use Rattle.assemble.proofs.Lines.{short-line}
+use Rattle.assemble.proofs.Kernel.{short-line}
 use Rattle.assemble.proofs.is_comment.Statement.{statement}
 use Rattle.assemble.proofs.is_comment.Tie as tie
 

@@ -10,8 +10,8 @@ use lib.ListN.{length, getD, take, drop, length-drop, drop-of-length-le}
 use lib.Seq.{drop-cons, drop-drop}
 use Rattle.text.specs.Spelling.{Text}
 use Rattle.checks.specs.Text.{fieldLength}
-use Rattle.assemble.specs.declared.Line.{Line}
-use Rattle.assemble.specs.Lines.{withByte, lines, isSpace, isBlank, isComment, lineOf, over}
+use Rattle.assemble.specs.declared.Assembled.{Assembled}
+use Rattle.assemble.specs.Kernel.{withByte, lines, isSpace, isBlank, isComment, assembled, countOver}
 
 -- ---- lines
 first-line : (t : Text) → 0 < length t → lines t ≡ take (fieldLength 10 t) t ∷ lines (drop (suc (fieldLength 10 t)) t)
@@ -37,13 +37,13 @@ line-at t at end h e =
     ∙ ap (λ (r : Text). take (end - at) (drop at t) ∷ lines r) (drop-drop (suc k) at t ∙ ap (λ (n : ℕ). drop n t) q)
 
 -- with that line counted, the lines behind it make the same number
-pub over-line : (f : ℕ → Line → ℕ) (n m : ℕ) (t : Text) (at end : ℕ) → at < length t → end ≡ at + fieldLength 10 (drop at t)
-    → m ≡ f n (lineOf (take (end - at) (drop at t))) → over f m (lines (drop (end + 1) t)) ≡ over f n (lines (drop at t))
-over-line f n m t at end h e p = rw p (sym (ap (over f n) (line-at t at end h e)))
+pub count-line : (f : ℕ → Assembled → ℕ) (n m : ℕ) (t : Text) (at end : ℕ) → at < length t → end ≡ at + fieldLength 10 (drop at t)
+    → m ≡ f n (assembled (take (end - at) (drop at t))) → countOver f m (lines (drop (end + 1) t)) ≡ countOver f n (lines (drop at t))
+count-line f n m t at end h e p = rw p (sym (ap (countOver f n) (line-at t at end h e)))
 
-pub over-end : (f : ℕ → Line → ℕ) (n : ℕ) (t : Text) (at : ℕ) → length t ≤ at → over f n (lines (drop at t)) ≡ n
+pub count-end : (f : ℕ → Assembled → ℕ) (n : ℕ) (t : Text) (at : ℕ) → length t ≤ at → countOver f n (lines (drop at t)) ≡ n
 unfolding lines
-over-end f n t at h = ap (λ (r : Text). over f n (lines r)) (drop-of-length-le t h)
+count-end f n t at h = ap (λ (r : Text). countOver f n (lines r)) (drop-of-length-le t h)
 
 -- ---- the bytes of a line from i on, by byte i
 module _ (t : Text) (i : ℕ) (h : i < length t) where

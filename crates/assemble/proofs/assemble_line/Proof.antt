@@ -1,10 +1,10 @@
--- `assemble::line_of` meets its contract: by the tests, then by what read answers. Assumes nothing.
+-- `assemble::assemble_line` meets its contract: by the tests, then by what read answers. Assumes nothing.
 use mathlib.Core.Path.{_≡_, _∙_, sym}
 use mathlib.Core.Bool.{false}
 use borrow.Author.Needs.{needs}
-use Rattle.assemble.specs.Lines.{isBlank, isComment}
-use Rattle.assemble.proofs.line_of.Statement.{statement}
-use Rattle.assemble.proofs.line_of.Tie as tie
+use Rattle.assemble.specs.Kernel.{isBlank, isComment}
+use Rattle.assemble.proofs.assemble_line.Statement.{statement}
+use Rattle.assemble.proofs.assemble_line.Tie as tie
 
 -- a line that is not blank, and no comment either
 written : (c : tie.Else1) → isBlank (c .before .before .before .args .line .now) ≡ false
@@ -26,8 +26,8 @@ returns-4 c =
     let r = c .before .before .before in
     rw (written (r .before .before .before), no-comment (r .before), sym (r .read .ensures .0) ∙ c .before .r .given .1)
 
-pub line-of-spec : {M : Type 1} → statement M
-line-of-spec =
+pub assemble-line-spec : {M : Type 1} → statement M
+assemble-line-spec =
     tie.close
     (tie.spec
     (λ c κs. search needs)
