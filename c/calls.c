@@ -25,9 +25,10 @@ static uint64_t packed(uint64_t value, uint64_t refusal) {
 }
 
 static void words(void) {
-    uint8_t room[64];
+    uint8_t room[47];
     const char *text = "usmop4s za2.s, { z10.b-z11.b }, { z30.b-z31.b }";
     const char *two_way = "umopa za0.s, p0/m, p0/m, z0.h, z0.h";
+    const char *tiles = "zero { za0.h, za1.d }";
     expect("decode", birdaghol_decode(6, 0xA1C0001F), 0);
     expect("decode, a feature off", birdaghol_decode(4, 0xA1C0001F), 8);
     expect("decode, 2-way", birdaghol_decode(8, UMOPA_2WAY), 0);
@@ -35,9 +36,11 @@ static void words(void) {
     expect("decode, 2-way, mixed signs", birdaghol_decode(15, 0xA0A00008), 7);
     expect("print", birdaghol_print(7, 0x811E8352, room, sizeof room), packed(strlen(text), 0));
     expect("print, its text", (uint64_t)memcmp(room, text, strlen(text)), 0);
-    expect("print, no room", birdaghol_print(7, ZERO, room, 62), packed(0, 12));
+    expect("print, no room", birdaghol_print(7, 0x811E8352, room, sizeof room - 1), packed(0, 12));
     expect("print, 2-way", birdaghol_print(15, UMOPA_2WAY, room, sizeof room), packed(strlen(two_way), 0));
     expect("print, its 2-way text", (uint64_t)memcmp(room, two_way, strlen(two_way)), 0);
+    expect("print, ZERO", birdaghol_print(1, 0xC0080057, room, sizeof room), packed(strlen(tiles), 0));
+    expect("print, its tiles", (uint64_t)memcmp(room, tiles, strlen(tiles)), 0);
 }
 
 /* Reads a line without the 0 after it. */
@@ -56,7 +59,8 @@ static void lines(void) {
     expect("read, quarter-tile", read_line(4, pairs), packed(0x811E8352, 0));
     expect("read, quarter-tile, 64-bit", read_line(6, usmop4s), packed(0xA1C0001F, 0));
     expect("read, quarter-tile, 2-way", read_line(4, "smop4s za2.s, z12.h, { z18.h-z19.h }"), packed(0x8012819A, 0));
-    expect("read, ZERO", read_line(1, "zero { za0.d, za4.d }"), packed(0xC0080011, 0));
+    expect("read, ZERO", read_line(1, "zero { za0.h, za1.d }"), packed(0xC0080057, 0));
+    expect("read, ZERO of all", read_line(1, "zero { za }"), packed(ZERO, 0));
     expect("read, ZERO of nothing", read_line(1, "zero {}"), packed(0xC0080000, 0));
     expect("read, a feature off", read_line(4, usmop4s), packed(0, 8));
     expect("read, SME2 off", read_line(7, two_way), packed(0, 8));
@@ -66,7 +70,8 @@ static void lines(void) {
     expect("read, a leading zero", read_line(15, "sumops za3.s, p2/m, p5/m, z03.b, z17.b"), packed(0, 13));
     expect("read, capitals", read_line(15, "SUMOPS ZA3.S, P2/M, P5/M, Z3.B, Z17.B"), packed(0, 13));
     expect("read, a space behind", read_line(15, "zero {} "), packed(0, 13));
-    expect("read, tiles falling", read_line(15, "zero { za4.d, za0.d }"), packed(0, 13));
+    expect("read, tiles falling", read_line(15, "zero { za1.d, za0.h }"), packed(0, 13));
+    expect("read, more tiles than need be", read_line(15, "zero { za0.d, za4.d }"), packed(0, 13));
     expect("read, its 0 too", birdaghol_read(15, (const uint8_t *)sumops, strlen(sumops) + 1), packed(0, 13));
     expect("read, its start", birdaghol_read(15, (const uint8_t *)sumops, strlen(sumops) - 1), packed(0, 13));
 }

@@ -77,7 +77,7 @@ pub fn decode(flags: u32, word: u32) -> Result<(), Refusal> {
     accepted(abi::birdaghol_decode(flags, word))
 }
 
-/// Writes the text of a word to the start of the room and gives its length; the bytes after it stay.
+/// Writes the text of a word, 47 bytes at most, to the start of the room and gives its length; the bytes after it stay.
 pub fn print(flags: u32, word: u32, room: &mut [u8]) -> Result<usize, Refusal> {
     // SAFETY: the address and the length are those of one slice, lent for this call alone.
     let answer = unsafe { abi::birdaghol_print(flags, word, room.as_mut_ptr(), room.len()) };

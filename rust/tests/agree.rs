@@ -89,9 +89,9 @@ fn read_damaged_lines() {
 /// behind it, and the text without one of its bytes gets the same answer.
 #[test]
 fn read_every_text() {
-    let mut words = 0;
+    let (mut words, mut longest) = (0, 0);
     for word in sample::every_listed() {
-        let mut room = [0; 63];
+        let mut room = [0; 47];
         let length = birdaghol::print(15, word, &mut room).expect("a listed word");
         let (line, at) = (&room[..length], words % length);
         assert_eq!(read_both(format_args!("word {word:08x}"), 15, line), Ok(word), "word {word:08x}");
@@ -99,8 +99,9 @@ fn read_every_text() {
         let without = [&line[..at], &line[at + 1..]].concat();
         _ = read_both(format_args!("word {word:08x} without byte {at}"), 15, &without);
         words += 1;
+        longest = longest.max(length);
     }
-    assert_eq!(words, 7_368_960);
+    assert_eq!((words, longest), (7_368_960, 47));
 }
 
 /// Reads a line on both sides, and makes sure that it stays as it was.

@@ -11,6 +11,28 @@ const BENCH: Bench = Bench { flags: 15, streaming: true, za_on: true, vb: 16 };
 /// The clearing of all of ZA.
 const ZERO: u32 = 0xC008_00FF;
 
+/// A word with one of the longest texts.
+const LONGEST: u32 = 0x811E_8352;
+
+/// The names of tiles in the order of the lowest 64-bit tile that each holds, and all that it holds, as a mask.
+const TILES: [(&str, u8); 15] = [
+    ("za", 0xFF),
+    ("za0.h", 0x55),
+    ("za0.s", 0x11),
+    ("za0.d", 0x01),
+    ("za1.h", 0xAA),
+    ("za1.s", 0x22),
+    ("za1.d", 0x02),
+    ("za2.s", 0x44),
+    ("za2.d", 0x04),
+    ("za3.s", 0x88),
+    ("za3.d", 0x08),
+    ("za4.d", 0x10),
+    ("za5.d", 0x20),
+    ("za6.d", 0x40),
+    ("za7.d", 0x80),
+];
+
 // Outer products of z0 and z1 into tile 0 under p0 and p1.
 const SUMOPA: u32 = 0xA0A1_2000;
 const SUMOPS: u32 = 0xA0A1_2010;
@@ -27,9 +49,21 @@ const SIGNED_2WAY: Operation =
 
 /// The text of a word.
 fn text(flags: u32, word: u32) -> Result<String, Refusal> {
-    let mut room = [0; 63];
+    let mut room = [0; 47];
     let length = print(flags, word, &mut room)?;
     Ok(String::from_utf8_lossy(&room[..length]).into_owned())
+}
+
+/// The names of tiles at the places whose bits are set, and the mask of what they hold.
+fn tiles(places: u32) -> (u8, Vec<&'static str>) {
+    let chosen = (0..).zip(TILES).filter(|(place, _)| places >> place & 1 == 1);
+    let (names, held): (Vec<&str>, Vec<u8>) = chosen.map(|(_, tile)| tile).unzip();
+    (held.into_iter().fold(0, |mask, held| mask | held), names)
+}
+
+/// The line of a ZERO with these names.
+fn zero(names: &[&str]) -> String {
+    if names.is_empty() { "zero {}".into() } else { format!("zero {{ {} }}", names.join(", ")) }
 }
 
 /// ZA after words at VB 16 with all predicate bits set, from vectors z0 and z1 and the first bytes of ZA.
@@ -55,10 +89,16 @@ fn texts_and_refused_words() {
     for (word, line) in [
         (0xA0A0_0010, "sumops za0.s, p0/m, p0/m, z0.b, z0.b"),
         (0xA0B1_A873, "sumops za3.s, p2/m, p5/m, z3.b, z17.b"),
-        (0x811E_8352, "usmop4s za2.s, { z10.b-z11.b }, { z30.b-z31.b }"),
+        (LONGEST, "usmop4s za2.s, { z10.b-z11.b }, { z30.b-z31.b }"),
         (0x8100_8010, "usmop4s za0.s, z0.b, z16.b"),
         (0xA0E0_0018, "sumop4s za0.d, z0.h, z16.h"),
-        (0xC008_0011, "zero { za0.d, za4.d }"),
+        (0xC008_0011, "zero { za0.s }"),
+        (0xC008_0055, "zero { za0.h }"),
+        (0xC008_0057, "zero { za0.h, za1.d }"),
+        (0xC008_0077, "zero { za0.h, za1.s }"),
+        (0xC008_0012, "zero { za1.d, za4.d }"),
+        (0xC008_00FE, "zero { za1.h, za2.s, za4.d }"),
+        (0xC008_00FF, "zero { za }"),
         (0xC008_0000, "zero {}"),
     ] {
         assert_eq!(text(7, word).as_deref(), Ok(line));
@@ -133,13 +173,33 @@ fn lines_that_are_no_text() {
         "zero",
         "zero { }",
         "zero {za0.d}",
-        "zero { za4.d, za0.d }",
+        "zero za0.d",
+        "zero { za1.d, za0.d }",
+        "zero { za1.d, za0.h }",
         "zero { za0.d, za0.d }",
-        "zero { za0.d, za4.d, }",
+        "zero { za0.d, za1.d, }",
+        "zero { za0.d,za1.d }",
+        "zero { za0.d, za4.d }",
+        "zero { za4.d, za0.d }",
+        "zero { za0.s, za2.s }",
+        "zero { za0.h, za1.h }",
+        "zero { za0.h, za1.d, za5.d }",
+        "zero { za0.s, za1.d, za2.s }",
+        "zero { za0.s, za4.d }",
+        "zero { za0.d, za0.s }",
+        "zero { za0.h, za0.h }",
+        "zero { za, za0.d }",
+        "zero { za0.d, za }",
         "zero { za8.d }",
-        "zero { za0.s }",
-        "zero { za }",
-        "zero { za0.d, za4.d } // both",
+        "zero { za4.s }",
+        "zero { za2.h }",
+        "zero { za0.b }",
+        "zero { za0.q }",
+        "zero { za00.d }",
+        "zero { za0 }",
+        "zero { za.d }",
+        "zero { ZA }",
+        "zero { za } // all",
     ] {
         assert_eq!(read(15, line), Err(Refusal::NotText), "{line}");
         assert_eq!(read(0, line), Err(Refusal::NotText), "{line}");
@@ -148,6 +208,38 @@ fn lines_that_are_no_text() {
     for bytes in [&[0xFF; 37][..], "zéro {}".as_bytes(), &[b'z'; 10_000], &b"zero {}".repeat(1_400)] {
         assert_eq!(read(15, bytes), Err(Refusal::NotText));
     }
+}
+
+/// A list is printed, and read, where no shorter one has its mask; that is so of one list for each mask.
+#[test]
+fn shortest_lists_of_tiles() {
+    let lists: Vec<(u8, Vec<&str>)> = (0..1 << TILES.len()).map(tiles).collect();
+    let mut fewest = [TILES.len(); 256];
+    for (mask, names) in &lists {
+        let fewest = &mut fewest[usize::from(*mask)];
+        *fewest = names.len().min(*fewest);
+    }
+    for (mask, names) in lists {
+        let (word, line) = (0xC008_0000 | u32::from(mask), zero(&names));
+        let shortest = names.len() == fewest[usize::from(mask)];
+        assert_eq!(text(1, word).expect("a ZERO") == line, shortest, "{word:08x}, {line}");
+        assert_eq!(read(1, &line), if shortest { Ok(word) } else { Err(Refusal::NotText) }, "{line}");
+    }
+}
+
+/// Lists of 64-bit tiles, which ZERO had at first, are still texts where no 32-bit tile has both its halves in them.
+#[test]
+fn lists_of_64_bit_tiles() {
+    let mut texts = 0;
+    for mask in 0..=0xFF_u8 {
+        let names = TILES.into_iter().filter(|(_, held)| held.is_power_of_two() && mask & held != 0);
+        let line = zero(&names.map(|(name, _)| name).collect::<Vec<_>>());
+        let halves = mask & mask >> 4 != 0;
+        let word = 0xC008_0000 | u32::from(mask);
+        assert_eq!(read(1, &line), if halves { Err(Refusal::NotText) } else { Ok(word) }, "{line}");
+        texts += u32::from(!halves);
+    }
+    assert_eq!(texts, 81);
 }
 
 #[test]
@@ -231,7 +323,7 @@ fn every_refusal_by_its_name() {
         (stopped(Bench { streaming: false, ..BENCH }, 512, 32, 256, 1), Refusal::StreamingOff),
         (stopped(Bench { za_on: false, ..BENCH }, 512, 32, 256, 1), Refusal::ZaOff),
         (encode(Instruction::Predicated { op, tile: 0, pn: 0, pm: 0, zn: 0, zm: 0 }).unwrap_err(), Refusal::OutOfRange),
-        (print(7, ZERO, &mut [0; 62]).unwrap_err(), Refusal::Room),
+        (print(7, LONGEST, &mut [0; 46]).unwrap_err(), Refusal::Room),
         (read(7, "zero { }").unwrap_err(), Refusal::NotText),
     ];
     for (number, (refusal, name)) in (1..).zip(refusals) {

@@ -2,9 +2,10 @@
 use mathlib.Core.Path.{_≡_, _∙_, refl}
 use mathlib.Core.List.{List, [], _∷_, map}
 use Rattle.isa.specs.Answers.{describe, missing, decodeOf, encodeOf}
+use Rattle.names.specs.Names.{namesOf}
 use Rattle.text.specs.Spelling.{spelling}
 use Rattle.text.specs.Printing.{textOf, printOf}
-use Rattle.reader.specs.Guess.{guessOf, scanned}
+use Rattle.reader.specs.Guess.{guessOf, scanned, tilesFrom}
 use Rattle.reader.proofs.Readings.{computed, read-computed}
 use Rattle.replay.specs.Execution.{refusalOf, after}
 use Rattle.replay.specs.Lists.{played, before, stop, ran, runOf}
@@ -12,7 +13,7 @@ use Rattle.birdaghol.specs.Calls.{packedReading, readCall}
 use Rattle.birdaghol.specs.Examples.{Example, examples, Read, reads, descriptions, described, expected}
 
 pub examples-hold : map (λ (e : Example). e .call) examples ≡ map (λ (e : Example). e .gives) examples
-unfolding decodeOf describe missing encodeOf spelling textOf printOf refusalOf after played before stop ran runOf
+unfolding decodeOf describe missing encodeOf namesOf spelling textOf printOf refusalOf after played before stop ran runOf
 examples-hold = refl
 
 -- a read is computed by the guess, and not by the search through all words
@@ -21,7 +22,7 @@ called [] = refl
 called (e ∷ es) = rw (read-computed (e .flags) (e .line), called es)
 
 computed-hold : map (λ (e : Read). packedReading (computed (e .flags) (e .line))) reads ≡ map (λ (e : Read). e .gives) reads
-unfolding guessOf scanned encodeOf decodeOf describe missing textOf spelling
+unfolding guessOf scanned tilesFrom encodeOf decodeOf describe missing namesOf textOf spelling
 computed-hold = refl
 
 pub reads-hold : map (λ (e : Read). readCall (e .flags) (e .line)) reads ≡ map (λ (e : Read). e .gives) reads

@@ -21,7 +21,7 @@ value-alone v = omega arith
 pub refusal-alone : (n : ℕ) → n ≡ packed 0 n
 refusal-alone n = omega arith
 
-pub printed-short : (flags w : ℕ) (room : List ℕ) (n : ℕ) → printOf flags w (length room) ≡ Length n → n ≤ 63
+pub printed-short : (flags w : ℕ) (room : List ℕ) (n : ℕ) → printOf flags w (length room) ≡ Length n → n ≤ 47
 printed-short flags w room n e =
     let h = prints flags w room .printed (ap printedNumber e) .most in
     let l = ap printedLength e in

@@ -37,7 +37,7 @@ examples =
     ∷ record { call = describeCall 16 0xA18595D9 10; gives = 1 }
     ∷ record { call = describeCall 15 0x81000010 11; gives = 7 }
     ∷ record { call = printCall 7 0x811E8352 64; gives = 47 * 256 }
-    ∷ record { call = printCall 7 0xC00800FF 62; gives = 12 }
+    ∷ record { call = printCall 7 0xC00800FF 10; gives = 12 }
     ∷ record { call = printCall 16 0xC00800FF 64; gives = 1 }
     -- element bytes, products, signs, subtract, tile, Pn, Pm, Zn, Zm
     ∷ record { call = predicatedCall 4 4 false true true 3 2 5 3 17; gives = 0xA0B1A873 * 256 }
@@ -81,6 +81,7 @@ abbrev pub reads : List Read
 reads =
     record { flags = 7; line = ascii "usmop4s za2.s, { z10.b-z11.b }, { z30.b-z31.b }"; gives = 0x811E8352 * 256 }
     ∷ record { flags = 8; line = ascii "umops za1.s, p5/m, p4/m, z14.h, z5.h"; gives = 0xA18595D9 * 256 }
+    ∷ record { flags = 1; line = ascii "zero { za0.h, za1.d }"; gives = 0xC0080057 * 256 }
     ∷ record { flags = 7; line = ascii "umops za1.s, p5/m, p4/m, z14.h, z5.h"; gives = 8 }
     ∷ record { flags = 7; line = ascii "umops za1.s, p5/m, p4/m, z14.h, z05.h"; gives = 13 }
     ∷ record { flags = 16; line = []; gives = 1 }
@@ -103,7 +104,7 @@ descriptions =
     ∷ record { word = 0xA0F2019C; numbers = 2 ∷ 8 ∷ 4 ∷ 0 ∷ 1 ∷ 1 ∷ 4 ∷ 12 ∷ 0 ∷ 18 ∷ 1 ∷ [] }
     -- smop4s za3.s, { z14.h-z15.h }, z16.h
     ∷ record { word = 0x800083DB; numbers = 2 ∷ 4 ∷ 2 ∷ 0 ∷ 0 ∷ 1 ∷ 3 ∷ 14 ∷ 1 ∷ 16 ∷ 0 ∷ [] }
-    -- zero { za0.d, za4.d }
+    -- zero { za0.s }
     ∷ record { word = 0xC0080011; numbers = 3 ∷ 17 ∷ 0 ∷ 0 ∷ 0 ∷ 0 ∷ 0 ∷ 0 ∷ 0 ∷ 0 ∷ 0 ∷ [] }
     ∷ []
 

@@ -82,13 +82,19 @@ fn after_space(n: u32) {
     io::print_decimal(STDOUT_FILENO, n as u64);
 }
 
-// The text has 47 bytes: the room's last byte stays a line feed.
+// No text is longer than the first, of 47 bytes: the room's last byte stays a line feed. The second has 11 bytes.
 fn prints() {
     let mut room = [b'\n'; 48];
     answer(b"print", birdaghol_print(7, 0x811E_8352, &mut room));
     io::write_all(STDOUT_FILENO, &room);
-    answer(b"print, no room", birdaghol_print(7, ZERO_ALL, &mut room));
-    io::write_all(STDOUT_FILENO, &room);
+    let mut exact = [b'-'; 11];
+    answer(b"print, zero", birdaghol_print(7, ZERO_ALL, &mut exact));
+    io::write_all(STDOUT_FILENO, &exact);
+    io::write_all(STDOUT_FILENO, b"\n");
+    let mut short = [b'-'; 10];
+    answer(b"print, no room", birdaghol_print(7, ZERO_ALL, &mut short));
+    io::write_all(STDOUT_FILENO, &short);
+    io::write_all(STDOUT_FILENO, b"\n");
 }
 
 // A line of each family and ZERO, then the order of the refusals.
@@ -101,7 +107,11 @@ fn reads() {
         b"read, 2-way",
         birdaghol_read(8, b"umops za1.s, p5/m, p4/m, z14.h, z5.h"),
     );
-    answer(b"read, zero", birdaghol_read(1, b"zero { za0.d, za4.d }"));
+    answer(b"read, zero", birdaghol_read(1, b"zero { za0.s }"));
+    answer(
+        b"read, a longer list",
+        birdaghol_read(1, b"zero { za0.d, za4.d }"),
+    );
     answer(
         b"read, without sme2",
         birdaghol_read(7, b"umops za1.s, p5/m, p4/m, z14.h, z5.h"),

@@ -384,6 +384,10 @@ pub record Word-of (e : Entry) (w : ℕ) : Type 0 where
   pub in-range : inRange (described e w) ≡ true
   pub word : wordFor (described e w) ≡ w
 
+-- whatever a line makes of a number is in range
+pub described-range : {e : Entry} (w : ℕ) → List·Memᴰ e table → inRange (described e w) ≡ true
+described-range {e} w m = line-kept m (fieldOf (e .row) w) (fields-fit (e .row) w (line-sound m .1)) .in-range
+
 pub described-word : {e : Entry} (w : ℕ) → List·Memᴰ e table → w < 2 ^ 32 → matches (e .row) w ≡ true → Word-of e w
 described-word {e} w m h q =
     let (n, s) = line-sound m in

@@ -13,7 +13,7 @@ use Rattle.isa.specs.declared.Instruction.{Instruction}
 use Rattle.isa.specs.declared.Refusal.the-variants.{Unlisted, FeatureOff}
 use Rattle.isa.specs.declared.Decoded.the-variants.{Accepted, Refused as NotDecoded}
 use Rattle.isa.specs.declared.Encoded.the-variants.{Word}
-use Rattle.isa.proofs.Lines.{in-table, described-word, word-described}
+use Rattle.isa.proofs.Lines.{in-table, described-range, described-word, word-described}
 use Rattle.isa.proofs.Lookup.{lookup-found, lookup-some, lookup-none}
 use Rattle.isa.proofs.Lookup.{one-line as lookup-one-line}
 use Rattle.isa.proofs.Answers.{lacking-none, on-lacking, decode-flags, decode-unlisted, decode-listed, decode-passed, describe-found, encode-in-range, encode-out-of-range, encoded}
@@ -140,17 +140,24 @@ unfolding missing
 missing-word flags i h = rw (lookup-found (wordFor i) (in-table i) (word-described i h .hit))
 
 -- what describes a word is in range, and the word is its word
-pub described-is : (w : ℕ) (i : Instruction) → w < 2 ^ 32 → describe w ≡ some i → (inRange i ≡ true) × (wordFor i ≡ w)
+line-found : (w : ℕ) (i : Instruction) → describe w ≡ some i → (e : Entry) × (lookup table w ≡ some e) × (described e w ≡ i)
 unfolding describe
-described-is w i h p = go (lookup table w) refl p
+line-found w i p = go (lookup table w) refl p
   where
-    go : (o : Option Entry) → lookup table w ≡ o → describedBy o w ≡ some i → (inRange i ≡ true) × (wordFor i ≡ w)
+    go : (o : Option Entry) → lookup table w ≡ o → describedBy o w ≡ some i → (e : Entry) × (lookup table w ≡ some e) × (described e w ≡ i)
     go none q d = let z : _≡_ {A = ℕ} 0 1 = cc in absurd (omega arith)
-    go (some e) q d =
-        let (m, k) = lookup-some table e w q in
-        let o = described-word w m h k in
-        let s : described e w ≡ i = cc in
-        (rw s at (o .in-range), rw s at (o .word))
+    go (some e) q d = (e, q, cc)
+
+-- what a number is described as is in range, be it a word or not
+pub described-in-range : (w : ℕ) (i : Instruction) → describe w ≡ some i → inRange i ≡ true
+described-in-range w i p = let (e, q, s) = line-found w i p in rw s at (described-range w (lookup-some table e w q .0))
+
+pub described-is : (w : ℕ) (i : Instruction) → w < 2 ^ 32 → describe w ≡ some i → (inRange i ≡ true) × (wordFor i ≡ w)
+described-is w i h p =
+    let (e, q, s) = line-found w i p in
+    let (m, k) = lookup-some table e w q in
+    let o = described-word w m h k in
+    (rw s at (o .in-range), rw s at (o .word))
 
 -- encode's number tells whether a description is in range
 range-number : (i : Instruction) (b : Bool) → inRange i ≡ b → encodeNumber i ≡ cond b 0 11
@@ -210,5 +217,5 @@ pub one-line : (w : ℕ) → OneLine w
 one-line = lookup-one-line
 
 -- what decode accepts is in range: the promise that callers of decode rest on
-pub accepted-in-range : (flags w : ℕ) (i : Instruction) → w < 2 ^ 32 → decodeOf flags w ≡ Accepted i → inRange i ≡ true
-accepted-in-range flags w i h p = described-is w i h (decode-passed flags w i p .1) .0
+pub accepted-in-range : (flags w : ℕ) (i : Instruction) → decodeOf flags w ≡ Accepted i → inRange i ≡ true
+accepted-in-range flags w i p = described-in-range w i (decode-passed flags w i p .1)

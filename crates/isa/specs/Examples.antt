@@ -97,7 +97,7 @@ examples =
     ∷ record { flags = 6; word = 0xA1E6011F; number = 0; is = aQuarter (umop dh subtracts) 7 (z 8) (z 22) }
     -- sumop4a za6.d, { z6.h-z7.h }, z20.h
     ∷ record { flags = 6; word = 0xA0E402CE; number = 0; is = aQuarter (sumop dh adds) 6 (zz 6) (z 20) }
-    -- zero { za0.d, za1.d, za2.d, za5.d, za7.d }
+    -- zero { za0.d, za1.s, za2.d, za7.d }
     ∷ record { flags = 1; word = 0xC00800A7; number = 0; is = some (Zero 0b10100111) }
     -- umopa za2.s, p7/m, p0/m, z31.h, z1.h
     ∷ record { flags = 8; word = 0xA1811FEA; number = 0; is = aPredicated (umop sh adds) 2 7 0 31 1 }

@@ -32,7 +32,8 @@ pub struct Listing {
 }
 
 fn main() {
-    let mut room = [0u8; 64];
+    // No text is longer.
+    let mut room = [0u8; 47];
     let quarter32 = list_words(QUARTER32, QUARTER32_WORDS, &mut room);
     let others = list_words(OTHERS, OTHER_WORDS, &mut room);
     let zero = list_words(ZERO, ZERO_WORDS, &mut room);

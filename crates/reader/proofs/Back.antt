@@ -17,11 +17,13 @@ use Rattle.isa.specs.declared.Instruction.{Instruction}
 use Rattle.isa.specs.declared.Instruction.the-variants.{Predicated, Quarter, Zero}
 use Rattle.isa.proofs.Tests.{every-all}
 use Rattle.isa.proofs.Lines.{predicated-range, quarter-range}
+use Rattle.names.specs.Names.{namesOf}
+use Rattle.names.proofs.Tests.{below}
 use Rattle.text.specs.Ascii.{ascii}
 use Rattle.text.specs.Spelling.{Text, decimal, mnemonic, tileName, predicateName, vectorName, sourceName, further, separated, spelling}
-use Rattle.reader.proofs.Laws.{below}
 use Rattle.reader.specs.declared.Scan.{Scan}
-use Rattle.reader.specs.Guess.{fresh, tilesAfter, stepped, scanned, byteAt, operationOf, sourceOf, outerOf, guessOf}
+use Rattle.reader.specs.Claims.{oldLine}
+use Rattle.reader.specs.Guess.{fresh, stepped, scanned, tilesFrom, maskOf, byteAt, operationOf, sourceOf, outerOf, guessOf}
 
 scanned-append : (s : Scan) (a b : Text) → scanned s (a ++ b) ≡ scanned (scanned s a) b
 unfolding scanned
@@ -35,7 +37,6 @@ numbered s n =
       wide = s .wide;
       half = s .half;
       predicated = s .predicated;
-      tiles = s .tiles;
       n0 = s .n0;
       n1 = s .n1;
       n2 = s .n2;
@@ -83,7 +84,6 @@ operand s half predicate pair n =
       wide = s .wide;
       half = half || s .half;
       predicated = predicate || s .predicated;
-      tiles = s .tiles;
       n0 = s .n1;
       n1 = s .n2;
       n2 = s .n3;
@@ -107,7 +107,6 @@ vectored s half n =
       wide = s .wide;
       half = half || s .half;
       predicated = s .predicated;
-      tiles = s .tiles;
       n0 = s .n0;
       n1 = s .n1;
       n2 = s .n2;
@@ -133,7 +132,6 @@ tiled wide n =
       wide = wide;
       half = false;
       predicated = false;
-      tiles = tilesAfter 0 n (cond wide 100 115);
       n0 = 0;
       n1 = 0;
       n2 = 0;
@@ -294,14 +292,19 @@ quarter-back op tile first second h =
     refl (o .two-way) refl
     ∙ rw (source-back first, source-back second))
 
--- ZERO: every mask's line, computed
-tiles-back : (m : ℕ) → m < 256 → scanned fresh (spelling (Zero m)) .tiles ≡ m
-unfolding spelling scanned
-tiles-back m h = eqb-true _ m (below (λ (m : ℕ). eqb (scanned fresh (spelling (Zero m)) .tiles) m) 256 m refl h)
+-- ---- ZERO: every mask's line, computed
+mask-back : (m : ℕ) → m < 256 → maskOf (spelling (Zero m)) ≡ m
+unfolding spelling namesOf tilesFrom
+mask-back m h = eqb-true _ m (below (λ (m : ℕ). eqb (maskOf (spelling (Zero m))) m) 256 m refl h)
 
 zero-back : (m : ℕ) → inRange (Zero m) ≡ true → guessOf (spelling (Zero m)) ≡ Zero m
 unfolding guessOf spelling
-zero-back m h = ap Zero (tiles-back m (ltb-true m 256 (every-all (ltb m 256 ∷ []) h .0)))
+zero-back m h = ap Zero (mask-back m (ltb-true m 256 (every-all (ltb m 256 ∷ []) h .0)))
+
+-- the lines of document 01 lead to the same masks
+pub old-back : (m : ℕ) → m < 256 → guessOf (oldLine m) ≡ Zero m
+unfolding guessOf tilesFrom
+old-back m h = ap Zero (eqb-true _ m (below (λ (m : ℕ). eqb (maskOf (oldLine m)) m) 256 m refl h))
 
 -- ---- every instruction in range
 pub guess-back : (i : Instruction) → inRange i ≡ true → guessOf (spelling i) ≡ i

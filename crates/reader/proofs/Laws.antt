@@ -1,35 +1,22 @@
 -- Laws of powers, scans and texts that the reader's functions use. Assumes nothing.
 use mathlib.Core.Path.{_≡_, _∙_, sym, ap, refl}
-use mathlib.Core.Bool.{Bool, true, false, not, _&&_}
+use mathlib.Core.Bool.{Bool, true, false, not, cond, _&&_}
 use mathlib.Core.List.{[], _∷_}
-use Prim.Native.Nat.{ℕ, zero, suc, _+_, _*_, _%_, _^_, _≤_, _<_}
+use Prim.Native.Nat.{ℕ, _+_, _*_, _%_, _^_, _≤_, _<_}
 use native.Mathlib.Omega.{arith}
 use native.Mathlib.Numerals.{add-one}
 use lib.Dec.{eqb, leb}
 use lib.ListN.{length, getD, take, drop, drop-of-length-le}
 use lib.Seq.{drop-cons, take-all, take-suc, getD-take, length-take-le}
-use borrow.Author.Tests.{eq-eqb, ne-eqb, eqb-true, eqb-false, leb-true}
+use borrow.Author.Tests.{eq-eqb, ne-eqb, eqb-true, leb-true}
 use Rattle.isa.specs.declared.Operation.{Operation}
 use Rattle.isa.specs.declared.Instruction.{Instruction}
 use Rattle.isa.specs.declared.Instruction.the-variants.{Zero}
+use Rattle.names.proofs.Tests.{below}
 use Rattle.text.specs.Spelling.{Text}
 use Rattle.reader.specs.declared.Scan.{Scan}
 use Rattle.reader.specs.Answers.{sameText}
-use Rattle.reader.specs.Guess.{fresh, stepped, scanned, byteAt, operationOf, outerOf, guessOf}
-
--- ---- a test of every number below a bound, computed
-abbrev pub every-below : (ℕ → Bool) → ℕ → Bool
-every-below f zero = true
-every-below f (suc n) = f n && every-below f n
-
-pub below : (f : ℕ → Bool) (n k : ℕ) → every-below f n ≡ true → k < n → f k ≡ true
-below f zero k p h = absurd (omega arith)
-below f (suc n) k p h = go (f n) refl p (eqb k n) refl (below f n k)
-  where
-    go : (b : Bool) → f n ≡ b → b && every-below f n ≡ true → (e : Bool) → eqb k n ≡ e → (every-below f n ≡ true → k < n → f k ≡ true) → f k ≡ true
-    go false q r e d rest = let z : true ≡ false = sym r in cc
-    go true q r true d rest = rw (eqb-true k n d) q
-    go true q r false d rest = rest r (omega (arith, eqb-false k n d))
+use Rattle.reader.specs.Guess.{fresh, numberAfter, stepped, scanned, share, tilesAfter, tilesFrom, maskOf, byteAt, operationOf, outerOf, guessOf}
 
 -- ---- the powers of two that a byte has
 pub power-small : (n : ℕ) → 2 ^ (n % 8) ≤ 128
@@ -37,6 +24,16 @@ power-small n = leb-true _ 128 (below (λ (k : ℕ). leb (2 ^ k) 128) 8 (n % 8) 
 
 pub power-cut : (n : ℕ) → 1 * 2 ^ (n % 8) % 4294967296 ≡ 2 ^ (n % 8)
 power-cut n = omega (arith, power-small n)
+
+-- a name's tiles, moved to their places, fit a word
+pub share-small : (b n : ℕ) → share b * 2 ^ (n % 8) ≤ 10880
+share-small b n = go (eqb b 100) (eqb b 115) (eqb b 104) (power-small n)
+  where
+    go : {p : ℕ} (d s h : Bool) → p ≤ 128 → cond d 0x01 (cond s 0x11 (cond h 0x55 0)) * p ≤ 10880
+    go true s h l = omega arith
+    go false true h l = omega arith
+    go false false true l = omega arith
+    go false false false l = omega arith
 
 -- ---- a scan by one byte more, and by no byte more
 pub scan-more : (s : Scan) (t : Text) (i : ℕ) → i < length t → scanned (stepped s (getD t i 0)) (drop (i + 1) t) ≡ scanned s (drop i t)
@@ -47,16 +44,26 @@ pub scan-over : (s : Scan) (t : Text) (i : ℕ) → length t ≤ i → scanned s
 unfolding scanned
 scan-over s t i h = ap (scanned s) (drop-of-length-le t h)
 
--- ---- the guess, from its parts
-module _ (t : Text) (b : ℕ) (s : Scan) (first : b ≡ byteAt t 0) (all : s ≡ scanned fresh t) where
-  pub zero-guess : b ≡ 122 → Zero (s .tiles) ≡ guessOf t
-  unfolding guessOf
-  zero-guess is = rw (← first, eq-eqb b 122 is, all)
+-- ---- the same for ZERO's mask
+pub tiles-more : (m n : ℕ) (t : Text) (i : ℕ) → i < length t
+    → tilesFrom (tilesAfter m n (getD t i 0)) (numberAfter n (getD t i 0)) (drop (i + 1) t) ≡ tilesFrom m n (drop i t)
+unfolding tilesFrom
+tiles-more m n t i h = rw (drop-cons t i 0 h, add-one i)
 
-  pub outer-guess : (op : Operation) (r : Instruction) → (b ≡ 122 → ⊥) → op ≡ operationOf t (s .wide) (s .half && not (s .wide)) (s .predicated)
-      → r ≡ outerOf op s → r ≡ guessOf t
+pub tiles-over : (m n : ℕ) (t : Text) (i : ℕ) → length t ≤ i → tilesFrom m n (drop i t) ≡ m
+unfolding tilesFrom
+tiles-over m n t i h = ap (tilesFrom m n) (drop-of-length-le t h)
+
+-- ---- the guess, from its parts
+module _ (t : Text) (b : ℕ) (first : b ≡ byteAt t 0) where
+  pub zero-guess : (m : ℕ) → b ≡ 122 → m ≡ maskOf t → Zero m ≡ guessOf t
   unfolding guessOf
-  outer-guess op r other operation is =
+  zero-guess m is mask = rw (← first, eq-eqb b 122 is, mask)
+
+  pub outer-guess : (s : Scan) (op : Operation) (r : Instruction) → (b ≡ 122 → ⊥) → s ≡ scanned fresh t
+      → op ≡ operationOf t (s .wide) (s .half && not (s .wide)) (s .predicated) → r ≡ outerOf op s → r ≡ guessOf t
+  unfolding guessOf
+  outer-guess s op r other all operation is =
       rw (ne-eqb (byteAt t 0) 122 (λ e. other (first ∙ e)), ← all) (is ∙ ap (λ (o : Operation). outerOf o s) operation)
 
 -- ---- the same text

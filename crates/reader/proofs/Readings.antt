@@ -20,7 +20,7 @@ use Rattle.isa.specs.declared.Encoded.{Encoded}
 use Rattle.isa.specs.declared.Encoded.the-variants.{Word as Encoding, Refused as NotEncoded}
 use Rattle.isa.proofs.Answers.{encoded, decode-passed}
 use Rattle.isa.proofs.Lines.{word-described}
-use Rattle.isa.proofs.Theorems.{decodes}
+use Rattle.isa.proofs.Theorems.{decodes, described-in-range}
 use Rattle.text.specs.Spelling.{Text, spelling}
 use Rattle.text.specs.Printing.{textOf, printOf, roomAfter, printedNumber, printedLength}
 use Rattle.text.specs.Claims.{Holds}
@@ -137,14 +137,14 @@ module _ (w n : ℕ) (room : List ℕ) (e : printOf allFlags w (length room) ≡
           absurd (omega arith)
 
 -- a word that was refused has no text
-pub refused-unlisted : (w n : ℕ) (r : Refusal) (t : Text) → 63 ≤ n → printOf allFlags w n ≡ NotPrinted r → false ≡ hasText w t
+pub refused-unlisted : (w n : ℕ) (r : Refusal) (t : Text) → 47 ≤ n → printOf allFlags w n ≡ NotPrinted r → false ≡ hasText w t
 refused-unlisted w n r t l e = go (describe w) refl
   where
     go : (o : Option Instruction) → describe w ≡ o → false ≡ hasText w t
     go none p = rw p
     go (some i) p =
         let q = print-accepted allFlags w n i (decodes-all w i p) in
-        let b = line-between i in
+        let b = line-between i (described-in-range w i p) in
         let k = le-ltb n (length (spelling i)) (omega arith) in
         let y : printOf allFlags w n ≡ Length (length (spelling i)) = q ∙ rw k in
         let z : _≡_ {A = ℕ} 0 1 = cc in

@@ -1,17 +1,21 @@
--- What document 02 (C-11) asks of a read: the claims of specs/Claims.antt hold for every flags and line. Assumes nothing.
+-- What document 02 (C-11, C-12) asks of a read: the claims of specs/Claims.antt hold for every flags and line. Assumes nothing.
 use mathlib.Core.Path.{_≡_, _∙_, sym, ap, refl, subst}
 use mathlib.Core.Bool.{Bool, true, false}
-use mathlib.Core.List.{List}
+use mathlib.Core.List.{List, [], _∷_}
 use mathlib.Core.Option.{Option, none, some}
-use Prim.Native.Nat.{ℕ, _≤_, _<_, _^_}
+use Prim.Native.Nat.{ℕ, _+_, _≤_, _<_, _^_}
 use native.Mathlib.Omega.{arith}
 use lib.Dec.{eqb, ltb}
 use lib.ListN.{length, take}
-use borrow.Author.Tests.{eq-eqb, ne-eqb, eqb-true, eqb-false, ltb-true, ltb-false}
-use Rattle.isa.specs.Table.{allFlags}
+use borrow.Author.Tests.{eq-eqb, ne-eqb, eqb-true, eqb-false, lt-ltb, ltb-true, ltb-false}
+use Rattle.isa.specs.Table.{allFlags, wordFor}
 use Rattle.isa.specs.Claims.{FeaturesOn}
-use Rattle.isa.specs.Answers.{missing, decodedNumber}
+use Rattle.isa.specs.Answers.{missing, decodedNumber, encodeOf}
+use Rattle.isa.specs.declared.Instruction.the-variants.{Zero}
+use Rattle.isa.specs.declared.Encoded.the-variants.{Word as Encoding}
 use Rattle.isa.specs.declared.Refusal.the-variants.{Flags, FeatureOff, NotText}
+use Rattle.isa.proofs.Tests.{all-every}
+use Rattle.isa.proofs.Answers.{encode-in-range}
 use Rattle.isa.proofs.Theorems.{decodes, describes}
 use Rattle.text.specs.Spelling.{Text}
 use Rattle.text.specs.Printing.{textOf, printNumber, printLength, roomAfter}
@@ -21,8 +25,9 @@ use Rattle.text.proofs.Theorems.{prints}
 use Rattle.reader.specs.declared.Reading.{Reading}
 use Rattle.reader.specs.declared.Reading.the-variants.{Word, Refused}
 use Rattle.reader.specs.Answers.{hasText, wordWith, readOf, readingNumber, readingWord, readNumber, readWord}
-use Rattle.reader.specs.Claims.{Spells, Reads, OneWord, OneSpelling, ReadAs, PrintedAs, Undo}
-use Rattle.reader.proofs.Words.{described-text, has-text, text-had, one-word, with-some, with-none, with-is}
+use Rattle.reader.specs.Claims.{Spells, Reads, OneWord, OneSpelling, ReadAs, PrintedAs, Undo, oldLine, OldRefused}
+use Rattle.reader.proofs.Words.{described-text, has-text, text-had, guessed, one-word, with-some, with-none, with-is}
+use Rattle.reader.proofs.Back.{old-back}
 use Rattle.reader.proofs.Readings.{read-flags, read-none, read-some, decodes-all}
 
 -- ---- the test of a word, in the claims' terms
@@ -34,11 +39,11 @@ passed w t h p =
     let (d, e) = text-had w t p in
     record { fits = h; listed = decodes allFlags w .accepts .0 (ap decodedNumber (decodes-all w (d .0) (d .1))) .1; text = e }
 
--- a line that is some word's has 1 to 63 bytes
-spelt-between : {w : ℕ} {t : Text} → Spells w t → OfLength 1 63 t
+-- a line that is some word's has 1 to 47 bytes
+spelt-between : {w : ℕ} {t : Text} → Spells w t → OfLength 1 47 t
 spelt-between {w} s =
     let (i, d) = describes w (s .fits) (s .listed) in
-    subst (OfLength 1 63) (sym (described-text w i (d .is)) ∙ s .text) (line-between i)
+    subst (OfLength 1 47) (sym (described-text w i (d .is)) ∙ s .text) (line-between i (d .in-range))
 
 -- the four outcomes of a read
 data Outcome (flags : ℕ) (t : Text) : Reading → Type 0 where
@@ -162,3 +167,15 @@ module _ (flags : ℕ) where
               λ p. let (w, h, q) = p in let (room, k) = q in rw (k .1 .text) at (read-printed w room h (k .0) .0),
             );
       }
+
+-- the old lines of ZERO that differ: no other word than the mask's could have one
+pub old-refused : OldRefused
+old-refused flags m f h d =
+    ap readingNumber
+    (none-when flags (oldLine m) f
+    (λ w s.
+    let g : encodeOf (Zero m) ≡ Encoding w = ap encodeOf (sym (old-back m h)) ∙ guessed w (oldLine m) (s .fits) (tested s) in
+    let e = encode-in-range (Zero m) (all-every (ltb m 256 ∷ []) (lt-ltb m 256 h, tt)) in
+    let x : wordFor (Zero m) ≡ w = cc in
+    let y : wordFor (Zero m) ≡ 0xC0080000 + m = omega arith in
+    d (sym (s .text) ∙ ap textOf (sym x ∙ y))))

@@ -1,12 +1,17 @@
--- What document 02 (C-11) asks of a read, in the paper's numbers; proofs/Theorems.antt proves it for every flags and line.
+-- What document 02 (C-11, C-12) asks of a read, in the paper's numbers; proofs/Theorems.antt proves it for every flags and line.
 use mathlib.Core.Path.{_≡_}
 use mathlib.Core.Logic.{_↔_}
-use mathlib.Core.List.{List}
-use Prim.Native.Nat.{ℕ, _≤_, _<_, _^_}
+use mathlib.Core.Bool.{_&&_}
+use mathlib.Core.List.{List, _++_, map}
+use Prim.Native.Nat.{ℕ, _+_, _≤_, _<_, _^_}
+use lib.Dec.{eqb}
 use lib.ListN.{length, take}
 use Rattle.isa.specs.Table.{allFlags}
 use Rattle.isa.specs.Claims.{Listed, FeaturesOn}
-use Rattle.text.specs.Spelling.{Text}
+use Rattle.names.specs.declared.TileName.{TileName}
+use Rattle.names.specs.Names.{names, inside, chosen}
+use Rattle.text.specs.Ascii.{ascii}
+use Rattle.text.specs.Spelling.{Text, nameText, braced}
 use Rattle.text.specs.Printing.{textOf, printNumber, printLength, roomAfter}
 use Rattle.text.specs.Claims.{OfLength, Holds}
 use Rattle.reader.specs.Answers.{readNumber, readWord}
@@ -25,7 +30,7 @@ pub record Reads (flags : ℕ) (t : Text) : Type 0 where
   pub gives-8 : (readNumber flags t ≡ 8) ↔ (flags ≤ allFlags) × ((w : ℕ) × Spells w t × (FeaturesOn flags w → ⊥))
   pub word : readNumber flags t ≡ 0 → Spells (readWord flags t) t × FeaturesOn flags (readWord flags t)
   pub refused : (readNumber flags t ≡ 0 → ⊥) → readWord flags t ≡ 0
-  pub between : readNumber flags t ≡ 0 → OfLength 1 63 t
+  pub between : readNumber flags t ≡ 0 → OfLength 1 47 t
 
 -- no two words share a line
 abbrev pub OneWord : Type 0
@@ -48,3 +53,11 @@ pub record Undo (flags : ℕ) : Type 0 where
       → ReadAs flags w (take (printLength flags w (length room)) (roomAfter flags w room))
   pub print-read : (t : Text) (room : List ℕ) → readNumber flags t ≡ 0 → length t ≤ length room → PrintedAs flags (readWord flags t) t room
   pub printed-lines : (t : Text) → (readNumber flags t ≡ 0) ↔ ((w : ℕ) × (w < 2 ^ 32) × ((room : List ℕ) × PrintedAs flags w t room))
+
+-- ZERO's line as document 01 had it: the mask's 64-bit tiles, rising
+abbrev pub oldLine : ℕ → Text
+oldLine m = ascii "zero " ++ braced (map nameText (chosen (λ (k : TileName). eqb (k .bytes) 8 && inside m k) names))
+
+-- where that is not the line of today, it is refused by 13
+abbrev pub OldRefused : Type 0
+OldRefused = (flags m : ℕ) → flags ≤ allFlags → m < 256 → (oldLine m ≡ textOf (0xC0080000 + m) → ⊥) → readNumber flags (oldLine m) ≡ 13

@@ -25,9 +25,12 @@ examples =
     ∷ record { flags = 7; line = ascii "smop4a za3.s, z14.b, { z16.b-z17.b }"; number = 0; word = 0x801081C3 }
     ∷ record { flags = 7; line = ascii "sumop4s za0.d, z0.h, z16.h"; number = 0; word = 0xA0E00018 }
     ∷ record { flags = 4; line = ascii "smop4s za3.s, { z14.h-z15.h }, z16.h"; number = 0; word = 0x800083DB }
-    ∷ record { flags = 7; line = ascii "zero { za0.d, za4.d }"; number = 0; word = 0xC0080011 }
+    ∷ record { flags = 7; line = ascii "zero { za0.d, za5.d }"; number = 0; word = 0xC0080021 }
+    ∷ record { flags = 7; line = ascii "zero { za0.s }"; number = 0; word = 0xC0080011 }
+    ∷ record { flags = 7; line = ascii "zero { za0.h, za1.d }"; number = 0; word = 0xC0080057 }
+    ∷ record { flags = 7; line = ascii "zero { za0.h, za1.s }"; number = 0; word = 0xC0080077 }
     ∷ record { flags = 7; line = ascii "zero {}"; number = 0; word = 0xC0080000 }
-    ∷ record { flags = 1; line = ascii "zero { za0.d, za1.d, za2.d, za3.d, za4.d, za5.d, za6.d, za7.d }"; number = 0; word = 0xC00800FF }
+    ∷ record { flags = 1; line = ascii "zero { za }"; number = 0; word = 0xC00800FF }
     -- flags, a feature that is off, and the order of the tests
     ∷ record { flags = 16; line = ascii "zero {}"; number = 1; word = 0 }
     ∷ record { flags = 16; line = ascii "zero"; number = 1; word = 0 }
@@ -47,10 +50,16 @@ examples =
     ∷ record { flags = 15; line = ascii "zero {"; number = 13; word = 0 }
     ∷ record { flags = 15; line = ascii "ZERO {}"; number = 13; word = 0 }
     ∷ record { flags = 15; line = ascii "zero { ZA0.d }"; number = 13; word = 0 }
-    ∷ record { flags = 15; line = ascii "zero { za4.d, za0.d }"; number = 13; word = 0 }
+    ∷ record { flags = 15; line = ascii "zero { za0.d, za4.d }"; number = 13; word = 0 }
+    ∷ record { flags = 15; line = ascii "zero { za0.d, za1.d, za2.d, za3.d, za4.d, za5.d, za6.d, za7.d }"; number = 13; word = 0 }
+    ∷ record { flags = 15; line = ascii "zero { za0.h, za1.h }"; number = 13; word = 0 }
+    ∷ record { flags = 15; line = ascii "zero { za1.d, za0.h }"; number = 13; word = 0 }
+    ∷ record { flags = 15; line = ascii "zero { za0.h, za2.d }"; number = 13; word = 0 }
+    ∷ record { flags = 15; line = ascii "zero { za5.d, za0.d }"; number = 13; word = 0 }
     ∷ record { flags = 15; line = ascii "zero { za0.d, za0.d }"; number = 13; word = 0 }
     ∷ record { flags = 15; line = ascii "zero { za8.d }"; number = 13; word = 0 }
-    ∷ record { flags = 15; line = ascii "zero { za0.s }"; number = 13; word = 0 }
+    ∷ record { flags = 15; line = ascii "zero { za4.s }"; number = 13; word = 0 }
+    ∷ record { flags = 15; line = ascii "zero { za0.b }"; number = 13; word = 0 }
     ∷ record { flags = 15; line = ascii "sumops za00.s, p0/m, p0/m, z0.b, z0.b"; number = 13; word = 0 }
     ∷ record { flags = 15; line = ascii "sumops za100.s, p0/m, p0/m, z0.b, z0.b"; number = 13; word = 0 }
     ∷ record { flags = 15; line = ascii "sumops za4.s, p0/m, p0/m, z0.b, z0.b"; number = 13; word = 0 }

@@ -4,7 +4,7 @@ use mathlib.Core.Bool.{Bool, false, not, cond, _&&_, _||_}
 use mathlib.Core.List.{[], _∷_}
 use Prim.Native.Nat.{ℕ, _+_, _-_, _*_, _%_, _^_}
 use lib.Dec.{eqb, ltb}
-use lib.ListN.{getD}
+use lib.ListN.{length, getD}
 use Rattle.isa.specs.Table.{source}
 use Rattle.isa.specs.declared.Operation.{Operation}
 use Rattle.isa.specs.declared.Source.{Source}
@@ -16,14 +16,13 @@ use Rattle.reader.specs.declared.Reading.{Reading}
 use Rattle.reader.specs.declared.Reading.the-variants.{Word, Refused}
 use Rattle.reader.specs.declared.Scan.{Scan}
 
--- ---- what stands in a line, byte by byte
+-- ---- what stands in an outer product's line, byte by byte
 abbrev pub fresh : Scan
 fresh =
     record {
       wide = false;
       half = false;
       predicated = false;
-      tiles = 0;
       n0 = 0;
       n1 = 0;
       n2 = 0;
@@ -37,10 +36,6 @@ fresh =
 abbrev pub numberAfter : ℕ → ℕ → ℕ
 numberAfter n b = cond (eqb b 122) 0 (cond (eqb b 112) 0 (cond (ltb b 48) n (cond (ltb 57 b) n (n % 10 * 10 + (b - 48)))))
 
--- a d (100) ends the name of 64-bit tile n
-abbrev pub tilesAfter : ℕ → ℕ → ℕ → ℕ
-tilesAfter m n b = cond (eqb b 100) ((m + 2 ^ (n % 8)) % 256) m
-
 -- a comma: the next operand
 abbrev pub shifted : Scan → Scan
 shifted s =
@@ -48,7 +43,6 @@ shifted s =
       wide = s .wide;
       half = s .half;
       predicated = s .predicated;
-      tiles = s .tiles;
       n0 = s .n1;
       n1 = s .n2;
       n2 = s .n3;
@@ -65,7 +59,6 @@ marked s b =
       wide = eqb b 100 || s .wide;
       half = eqb b 104 || s .half;
       predicated = eqb b 47 || s .predicated;
-      tiles = tilesAfter (s .tiles) (s .number) b;
       n0 = s .n0;
       n1 = s .n1;
       n2 = s .n2;
@@ -81,6 +74,24 @@ stepped s b = cond (eqb b 44) (shifted s) (marked s b)
 unfoldable pub scanned : Scan → Text → Scan
 scanned s [] = s
 scanned s (b ∷ t) = scanned (stepped s b) t
+
+-- ---- the mask of ZERO's names
+
+-- the 64-bit tiles of tile 0 of a size, as a mask: d (100) is itself one, s (115) has every fourth, h (104) every second
+abbrev pub share : ℕ → ℕ
+share b = cond (eqb b 100) 0x01 (cond (eqb b 115) 0x11 (cond (eqb b 104) 0x55 0))
+
+-- the letter behind number n adds the tiles of tile n
+abbrev pub tilesAfter : ℕ → ℕ → ℕ → ℕ
+tilesAfter m n b = (m + share b * 2 ^ (n % 8)) % 256
+
+unfoldable pub tilesFrom : ℕ → ℕ → Text → ℕ
+tilesFrom m n [] = m
+tilesFrom m n (b ∷ t) = tilesFrom (tilesAfter m n b) (numberAfter n b) t
+
+-- one line has a name without a number: `zero { za }`, which alone has 11 bytes
+abbrev pub maskOf : Text → ℕ
+maskOf t = cond (eqb (length t) 11) 255 (tilesFrom 0 0 t)
 
 -- ---- the letters of an outer product's name, by their places
 abbrev pub byteAt : Text → ℕ → ℕ
@@ -126,11 +137,8 @@ abbrev pub outerGuess : Text → Scan → Instruction
 outerGuess t s = outerOf (operationOf t (s .wide) (s .half && not (s .wide)) (s .predicated)) s
 
 -- a z begins ZERO alone
-abbrev pub guessFrom : Text → Scan → Instruction
-guessFrom t s = cond (eqb (byteAt t 0) 122) (Zero (s .tiles)) (outerGuess t s)
-
 unfoldable pub guessOf : Text → Instruction
-guessOf t = guessFrom t (scanned fresh t)
+guessOf t = cond (eqb (byteAt t 0) 122) (Zero (maskOf t)) (outerGuess t (scanned fresh t))
 
 -- ---- what is answered of a word, by whether it has the line, and whether flags allow it
 abbrev pub verdict : ℕ → Bool → Bool → Reading

@@ -1,7 +1,7 @@
 // A guess of the instruction that a line spells: right for every line that spells one, and of no use for any other.
 ghost use mathlib.Core.Path.{_≡_};
 ghost use Prim.Native.Nat.{_-_};
-ghost use Rattle.reader.specs.Guess.{fresh, numberAfter, tilesAfter, shifted, marked, stepped, scanned, byteAt, oneSign, secondAt, lastAt, operationOf, sourceOf, outerOf, guessOf};
+ghost use Rattle.reader.specs.Guess.{fresh, numberAfter, shifted, marked, stepped, scanned, byteAt, oneSign, secondAt, lastAt, operationOf, sourceOf, outerOf, share, tilesAfter, maskOf, guessOf};
 use crate::Scan;
 use isa::Instruction;
 use isa::Operation;
@@ -10,13 +10,16 @@ use isa::Source;
 use isa::Tile;
 use isa::Vector;
 
+// The length of `zero { za }`, the one name without a number; no other ZERO has it.
+const ALL_LENGTH: usize = 11;
+
 pub(crate) fn guess(line: &[u8]) -> Instruction
     ensures { λ r. ⌜ r ≡ guessOf (now (line .entry)) ⌝ }
 {
-    let s = scan(line);
     if byte(line, 0) == b'z' {
-        return Instruction::Zero(s.tiles);
+        return Instruction::Zero(mask_of(line));
     }
+    let s = scan(line);
     let two_way = s.half & !s.wide;
     outer_of(operation_of(line, s.wide, two_way, s.predicated), s)
 }
@@ -99,7 +102,7 @@ fn last_at(one: bool, predicated: bool) -> usize
     if predicated { 5 } else { 6 }
 }
 
-// One walk for every kind of line. No line can make a number overflow.
+// One walk for every outer product. No line can make a number overflow.
 fn scan(line: &[u8]) -> Scan
     ensures { λ r. ⌜ r ≡ scanned fresh (now (line .entry)) ⌝ }
 {
@@ -119,7 +122,6 @@ fn start() -> Scan
         wide: false,
         half: false,
         predicated: false,
-        tiles: 0,
         n0: 0,
         n1: 0,
         n2: 0,
@@ -147,7 +149,6 @@ fn shift(s: Scan) -> Scan
         wide: s.wide,
         half: s.half,
         predicated: s.predicated,
-        tiles: s.tiles,
         n0: s.n1,
         n1: s.n2,
         n2: s.n3,
@@ -166,7 +167,6 @@ fn mark(s: Scan, b: u8) -> Scan
         wide: (b == b'd') | s.wide,
         half: (b == b'h') | s.half,
         predicated: (b == b'/') | s.predicated,
-        tiles: tiles_after(s.tiles, s.number, b),
         n0: s.n0,
         n1: s.n1,
         n2: s.n2,
@@ -175,16 +175,6 @@ fn mark(s: Scan, b: u8) -> Scan
         earlier: s.earlier,
         pair: (b == b'-') | s.pair,
     }
-}
-
-// A d ends the name of 64-bit tile n.
-fn tiles_after(m: u8, n: u32, b: u8) -> u8
-    ensures { λ r. ⌜ r ≡ tilesAfter m n b ⌝ }
-{
-    if b == b'd' {
-        return ((m as u32 + (1 << (n % 8))) % 256) as u8;
-    }
-    m
 }
 
 // A z or a p starts a number anew, a digit goes on; the last two digits count.
@@ -204,6 +194,43 @@ fn number_after(n: u32, b: u8) -> u32
         return n;
     }
     n % 10 * 10 + (b - b'0') as u32
+}
+
+// The mask of a ZERO's names: each adds its 64-bit tiles.
+fn mask_of(line: &[u8]) -> u8
+    ensures { λ r. ⌜ r ≡ maskOf (now (line .entry)) ⌝ }
+{
+    if line.len() == ALL_LENGTH {
+        return 255;
+    }
+    let mut mask = 0;
+    let mut number = 0;
+    let mut i = 0;
+    while i < line.len() {
+        mask = tiles_after(mask, number, line[i]);
+        number = number_after(number, line[i]);
+        i += 1;
+    }
+    mask
+}
+
+// The mask behind a byte that may end the name of tile n.
+fn tiles_after(mask: u8, n: u32, b: u8) -> u8
+    ensures { λ r. ⌜ r ≡ tilesAfter mask n b ⌝ }
+{
+    ((mask as u32 + share_of(b) * (1 << (n % 8))) % 256) as u8
+}
+
+// The 64-bit tiles of tile 0 of a size, as a mask.
+fn share_of(b: u8) -> u32
+    ensures { λ r. ⌜ r ≡ share b ⌝ }
+{
+    match b {
+        b'd' => 0x01,
+        b's' => 0x11,
+        b'h' => 0x55,
+        _ => 0,
+    }
 }
 
 // The byte at a place, or 0 behind the line's end.

@@ -11,14 +11,13 @@ pub enum Reading {
     Refused(Refusal),
 }
 
-// What stands in a line, as far as it was read: whether a 64-bit tile, halfword elements or a predicate was named; the
-// 64-bit tiles, as a mask; the numbers of the last five operands, in their order, so that three of them stand from n2 on;
-// and whether the last two are pairs.
+// What stands in an outer product's line, as far as it was read: whether a 64-bit tile, halfword elements or a predicate was
+// named; the numbers of the last five operands, in their order, so that three of them stand from n2 on; and whether the
+// last two are pairs.
 pub(crate) struct Scan {
     wide: bool,
     half: bool,
     predicated: bool,
-    tiles: u8,
     n0: u32,
     n1: u32,
     n2: u32,

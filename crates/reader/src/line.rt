@@ -38,11 +38,11 @@ fn decide(w: u32, spelt: bool, allowed: bool) -> Reading
     Reading::Word(w)
 }
 
-// Whether a word is listed and has this text. A text has at most 63 bytes, so that no room is too short for it.
+// Whether a word is listed and has this text. No text is longer than the room.
 fn has_text(w: u32, line: &[u8]) -> bool
     ensures { λ r. ⌜ r ≡ hasText w (now (line .entry)) ⌝ }
 {
-    let mut room = [0u8; 64];
+    let mut room = [0u8; 47];
     match text::print(isa::ALL_FLAGS, w, &mut room) {
         Printed::Length(n) => same(&room, n, line),
         Printed::Refused(_) => false,

@@ -1,22 +1,29 @@
--- How long a line is: never empty, at most 63 bytes, and one is that long. Assumes nothing.
+-- How long a line is: never empty, at most 47 bytes, and one is that long. Assumes nothing.
 use mathlib.Core.Path.{_≡_, refl}
 use mathlib.Core.Bool.{Bool, true, false, cond}
-use mathlib.Core.List.{List, [], _∷_, _++_}
-use Prim.Native.Nat.{ℕ, zero, suc, _+_, _*_, _/_, _%_, _^_, _≤_}
+use mathlib.Core.List.{List, [], _∷_, _++_, map}
+use Prim.Native.Nat.{ℕ, _+_, _*_, _≤_, _<_}
 use native.Mathlib.Omega.{arith}
 use lib.Dec.{eqb, ltb}
 use lib.ListN.{length, length-append}
-use Rattle.isa.specs.Table.{elementBytes, sourceBytes}
+use borrow.Author.Tests.{lt-ltb, ltb-true}
+use Rattle.isa.specs.Table.{elementBytes, sourceBytes, ranges, inRange}
+use Rattle.isa.specs.Answers.{describe}
 use Rattle.isa.specs.declared.Operation.{Operation}
 use Rattle.isa.specs.declared.Source.{Source}
 use Rattle.isa.specs.declared.Source.the-variants.{One, Pair}
 use Rattle.isa.specs.declared.Instruction.{Instruction}
 use Rattle.isa.specs.declared.Instruction.the-variants.{Predicated, Quarter, Zero}
+use Rattle.isa.proofs.Tests.{every-all}
+use Rattle.isa.proofs.Lines.{predicated-range, quarter-range}
+use Rattle.names.specs.declared.TileName.{TileName}
+use Rattle.names.specs.Names.{namesOf}
+use Rattle.names.proofs.Theorems.{few-names}
 use Rattle.text.specs.Ascii.{ascii}
 use Rattle.text.specs.Spelling.{Text, decimal, mnemonic, suffix, tileName, predicateName, vectorName, sourceName}
-use Rattle.text.specs.Spelling.{further, tilesFrom, tilesOfMask, braced, spelling}
+use Rattle.text.specs.Spelling.{nameText, further, braced, spelling}
+use Rattle.text.specs.Printing.{textOf}
 use Rattle.text.specs.Claims.{OfLength}
-use Rattle.text.proofs.Texts.{name-length}
 
 joined : {a b m n : ℕ} {s t : Text} → OfLength a m s → OfLength b n t → OfLength (a + b) (m + n) (s ++ t)
 joined {s = s} {t = t} p q = record { low = omega (arith, length-append s t); high = omega (arith, length-append s t) }
@@ -48,9 +55,9 @@ mnemonic-between stem op h =
     (omega arith)
     (omega arith)
 
--- a register's name: what leads up to its number, and a suffix of two bytes
-name-between : (lead mark : Text) (n : ℕ) → length lead ≤ 2 → length mark ≡ 2 → OfLength 2 6 (lead ++ decimal n ++ mark)
-name-between lead mark n h e = within (joined (joined (literal lead) (decimal-between n)) (literal mark)) (omega arith) (omega arith)
+-- a register's name: what leads up to its number, the number, and a suffix of two bytes
+name-between : {a m : ℕ} (lead mark : Text) (n : ℕ) → OfLength a m (decimal n) → length mark ≡ 2 → OfLength (length lead + a + 2) (length lead + m + 2) (lead ++ decimal n ++ mark)
+name-between lead mark n d e = within (joined (joined (literal lead) d) (literal mark)) (omega arith) (omega arith)
 
 suffix-length : (bytes : ℕ) → length (suffix bytes) ≡ 2
 suffix-length bytes = go (eqb bytes 1) (eqb bytes 2) (eqb bytes 4)
@@ -61,13 +68,19 @@ suffix-length bytes = go (eqb bytes 1) (eqb bytes 2) (eqb bytes 4)
     go false false true = refl
     go false false false = refl
 
-tile-between : (bytes n : ℕ) → OfLength 2 6 (tileName bytes (record { 0 = n }))
-tile-between bytes n = name-between (ascii "za") (suffix bytes) n (omega arith) (suffix-length bytes)
+tile-between : (bytes n : ℕ) → OfLength 5 6 (tileName bytes (record { 0 = n }))
+tile-between bytes n = name-between (ascii "za") (suffix bytes) n (decimal-between n) (suffix-length bytes)
 
-vector-between : (bytes n : ℕ) → OfLength 2 6 (vectorName bytes n)
-vector-between bytes n = name-between (ascii "z") (suffix bytes) n (omega arith) (suffix-length bytes)
+-- an instruction's tile has a number of one digit
+short-tile : (bytes n : ℕ) → n < 10 → OfLength 5 5 (tileName bytes (record { 0 = n }))
+short-tile bytes n h =
+    let d : OfLength 1 1 (decimal n) = rw (lt-ltb n 10 h) (literal (_ ∷ [])) in
+    name-between (ascii "za") (suffix bytes) n d (suffix-length bytes)
 
-source-between : (bytes : ℕ) (s : Source) → OfLength 2 17 (sourceName bytes s)
+vector-between : (bytes n : ℕ) → OfLength 4 5 (vectorName bytes n)
+vector-between bytes n = name-between (ascii "z") (suffix bytes) n (decimal-between n) (suffix-length bytes)
+
+source-between : (bytes : ℕ) (s : Source) → OfLength 4 15 (sourceName bytes s)
 source-between bytes (One v) = within (vector-between bytes (v .0)) (omega arith) (omega arith)
 source-between bytes (Pair v) =
     let name = vector-between bytes in
@@ -76,19 +89,15 @@ source-between bytes (Pair v) =
     (omega arith)
     (omega arith)
 
--- ---- ZERO's list: at most seven bytes for each of eight tiles, and no comma before the first
-further-tiles : (k i m : ℕ) → i + k ≤ 10 → length (further (tilesFrom k i m)) ≤ 7 * k
-further-tiles zero i m h = omega arith
-further-tiles (suc k) i m h = go (eqb (m / 2 ^ i % 2) 1) (further-tiles k (i + 1) m (omega arith))
-  where
-    go : (b : Bool) → length (further (tilesFrom k (i + 1) m)) ≤ 7 * k
-        → length (further (cond b (tileName 8 (record { 0 = i }) ∷ tilesFrom k (i + 1) m) (tilesFrom k (i + 1) m))) ≤ 7 * suc k
-    go true r =
-        let l = length-append (ascii ", " ++ tileName 8 (record { 0 = i })) (further (tilesFrom k (i + 1) m)) in
-        omega (arith, l, name-length i (omega arith))
-    go false r = omega arith
+-- ---- ZERO's list: at most eight bytes for each name, and no comma before the first
+name-short : (k : TileName) → OfLength 2 6 (nameText k)
+name-short k = either (eqb (k .bytes) 1) (within (literal (ascii "za")) (omega arith) (omega arith)) (within (tile-between (k .bytes) (k .tile .0)) (omega arith) (omega arith))
 
-braced-between : (ts : List Text) → length (further ts) ≤ 56 → OfLength 2 58 (braced ts)
+further-names : (ks : List TileName) → length (further (map nameText ks)) ≤ 8 * length ks
+further-names [] = omega arith
+further-names (k ∷ ks) = omega (arith, length-append (ascii ", " ++ nameText k) (further (map nameText ks)), name-short k, further-names ks)
+
+braced-between : (ts : List Text) → length (further ts) ≤ 32 → OfLength 2 34 (braced ts)
 braced-between [] h = within (literal (ascii "{}")) (omega arith) (omega arith)
 braced-between (t ∷ ts) h =
     let l = length-append (ascii ", " ++ t) (further ts) in
@@ -96,32 +105,38 @@ braced-between (t ∷ ts) h =
     let s = length-append t (further ts) in
     record { low = omega arith; high = omega arith }
 
-predicate-between : (n : ℕ) → OfLength 2 6 (predicateName (record { 0 = n }))
-predicate-between n = name-between (ascii "p") (ascii "/m") n (omega arith) refl
+predicate-between : (n : ℕ) → OfLength 4 5 (predicateName (record { 0 = n }))
+predicate-between n = name-between (ascii "p") (ascii "/m") n (decimal-between n) refl
 
 -- one operand more
 more : {a b m n : ℕ} {t rest : Text} → OfLength a m t → OfLength b n rest → OfLength (2 + a + b) (2 + m + n) (ascii ", " ++ t ++ rest)
 more p q = joined (joined (literal (ascii ", ")) p) q
 
 -- a mnemonic, a space and operands
-line : {a b m n : ℕ} {s t : Text} → OfLength a m s → OfLength b n t → m + 1 + n ≤ 63 → OfLength 1 63 (s ++ ascii " " ++ t)
+line : {a b m n : ℕ} {s t : Text} → OfLength a m s → OfLength b n t → m + 1 + n ≤ 47 → OfLength 1 47 (s ++ ascii " " ++ t)
 line p q h = within (joined (joined p (literal (ascii " "))) q) (omega arith) (omega arith)
 
--- no line is empty, and none is longer than 63 bytes
-pub line-between : (i : Instruction) → OfLength 1 63 (spelling i)
+-- no line is empty, and none of a description in range is longer than 47 bytes
+pub line-between : (i : Instruction) → inRange i ≡ true → OfLength 1 47 (spelling i)
 unfolding spelling
-line-between (Predicated op tile pn pm zn zm) =
+line-between (Predicated op tile pn pm zn zm) h =
     let v = vector-between (sourceBytes op) in
     let operands = more (predicate-between (pn .0)) (more (predicate-between (pm .0)) (more (v (zn .0)) (more (v (zm .0)) (literal [])))) in
-    line (mnemonic-between (ascii "mop") op (omega arith)) (joined (tile-between (elementBytes op) (tile .0)) operands) (omega arith)
-line-between (Quarter op tile first second) =
+    let t = short-tile (elementBytes op) (tile .0) (omega (arith, predicated-range op tile pn pm zn zm h)) in
+    line (mnemonic-between (ascii "mop") op (omega arith)) (joined t operands) (omega arith)
+line-between (Quarter op tile first second) h =
     let s = source-between (sourceBytes op) in
     let operands = more (s first) (more (s second) (literal [])) in
-    line (mnemonic-between (ascii "mop4") op (omega arith)) (joined (tile-between (elementBytes op) (tile .0)) operands) (omega arith)
-line-between (Zero m) =
-    within (joined (literal (ascii "zero ")) (braced-between (tilesOfMask m) (further-tiles 8 0 m (omega arith)))) (omega arith) (omega arith)
+    let t = short-tile (elementBytes op) (tile .0) (omega (arith, quarter-range op tile first second h)) in
+    line (mnemonic-between (ascii "mop4") op (omega arith)) (joined t operands) (omega arith)
+line-between (Zero m) h =
+    let f = few-names m (ltb-true m 256 (every-all (ranges (Zero m)) h .0)) in
+    within
+    (joined (literal (ascii "zero ")) (braced-between (map nameText (namesOf m)) (omega (arith, f, further-names (namesOf m)))))
+    (omega arith)
+    (omega arith)
 
--- one is 63 bytes long
-pub longest-line : length (spelling (Zero 255)) ≡ 63
-unfolding spelling
+-- one is 47 bytes long
+pub longest-line : length (textOf 0x811E8352) ≡ 47
+unfolding textOf describe spelling
 longest-line = refl

@@ -1,17 +1,20 @@
 -- The parts of a line, in the order in which the printer puts them, are the line. Assumes nothing.
 use mathlib.Core.Path.{_≡_, _∙_, sym, ap, refl}
 use mathlib.Core.Bool.{Bool, true, false, cond}
-use mathlib.Core.List.{List, [], _∷_, _++_, append-assoc, append-nil}
-use Prim.Native.Nat.{ℕ, zero, suc, _+_, _/_, _%_, _^_, _≤_, _<_}
+use mathlib.Core.List.{List, [], _∷_, _++_, map, map-append, append-assoc, append-nil}
+use Prim.Native.Nat.{ℕ, zero, suc, _+_, _<_}
 use native.Mathlib.Nat.{zero-add, add-zero}
 use native.Mathlib.Numerals.{add-one}
 use native.Mathlib.Omega.{arith}
-use lib.Dec.{eqb}
-use borrow.Author.Tests.{lt-ltb, eq-eqb, ne-eqb}
+use lib.Dec.{eqb, ltb}
+use borrow.Author.Tests.{ltb-true, eq-eqb, ne-eqb}
 use lib.ListN.{length, length-append}
+use Rattle.names.specs.declared.TileName.{TileName}
+use Rattle.names.specs.Lists.{nameOf, digit, namesFrom}
+use Rattle.names.proofs.Tests.{below}
 use Rattle.text.specs.Ascii.{ascii}
-use Rattle.text.specs.Spelling.{Text, separated, further, braced, tileName, tilesFrom}
-use Rattle.text.specs.Put.{listed, shown}
+use Rattle.text.specs.Spelling.{Text, decimal, suffix, nameText, separated, further, braced}
+use Rattle.text.specs.Put.{listed, behind, shown}
 
 pub heading-text : (m t : Text) → m ++ (ascii " " ++ t) ≡ m ++ ascii " " ++ t
 heading-text m t = sym (append-assoc m (ascii " ") t)
@@ -28,7 +31,7 @@ predicated-text h t p q v w = simp (append-assoc, append-nil)
 pub quarter-text : (h t v w : Text) → h ++ t ++ (ascii ", " ++ v) ++ (ascii ", " ++ w) ≡ h ++ separated (t ∷ v ∷ w ∷ [])
 quarter-text h t v w = simp (append-assoc, append-nil)
 
--- ---- ZERO's list, which the printer puts tile by tile behind its opening brace
+-- ---- ZERO's list, which the printer puts name by name behind its opening brace
 
 abbrev none? : List Text → Bool
 none? [] = true
@@ -47,34 +50,32 @@ shown-none : (ts : List Text) (at : ℕ) → at ≡ 6 + length (shown ts) → eq
 shown-none [] at e = eq-eqb at 6 e
 shown-none (t ∷ ts) at e = ne-eqb at 6 (λ h. omega (arith, e, length-append (ascii " " ++ t) (further ts)))
 
-tiles-snoc : (k i m : ℕ) → tilesFrom (suc k) i m ≡ tilesFrom k i m ++ tilesFrom 1 (i + k) m
-tiles-snoc zero i m = ap (λ (n : ℕ). tilesFrom 1 n m) (sym (add-zero i))
-tiles-snoc (suc k) i m = go (eqb (m / 2 ^ i % 2) 1) (tiles-snoc k (i + 1) m ∙ ap (λ (n : ℕ). tilesFrom k (i + 1) m ++ tilesFrom 1 n m) (omega arith))
+names-snoc : (n i list : ℕ) → namesFrom (suc n) i list ≡ namesFrom n i list ++ namesFrom 1 (i + n) list
+names-snoc zero i list = ap (λ (j : ℕ). namesFrom 1 j list) (sym (add-zero i))
+names-snoc (suc n) i list =
+    go (eqb (digit list i) 0) (names-snoc n (i + 1) list ∙ ap (λ (j : ℕ). namesFrom n (i + 1) list ++ namesFrom 1 j list) (omega arith))
   where
-    go : (b : Bool) → tilesFrom (suc k) (i + 1) m ≡ tilesFrom k (i + 1) m ++ tilesFrom 1 (i + suc k) m
-        → cond b (tileName 8 (record { 0 = i }) ∷ tilesFrom (suc k) (i + 1) m) (tilesFrom (suc k) (i + 1) m)
-        ≡ cond b (tileName 8 (record { 0 = i }) ∷ tilesFrom k (i + 1) m) (tilesFrom k (i + 1) m) ++ tilesFrom 1 (i + suc k) m
-    go true e = ap (λ (l : List Text). tileName 8 (record { 0 = i }) ∷ l) e
-    go false e = e
+    go : (b : Bool) → namesFrom (suc n) (i + 1) list ≡ namesFrom n (i + 1) list ++ namesFrom 1 (i + suc n) list
+        → cond b (namesFrom (suc n) (i + 1) list) (nameOf (digit list i) ∷ namesFrom (suc n) (i + 1) list)
+        ≡ cond b (namesFrom n (i + 1) list) (nameOf (digit list i) ∷ namesFrom n (i + 1) list) ++ namesFrom 1 (i + suc n) list
+    go true e = e
+    go false e = ap (λ (l : List TileName). nameOf (digit list i) ∷ l) e
 
--- one tile more
-pub shown-more : (i m at : ℕ) → at ≡ 6 + length (shown (tilesFrom i 0 m)) → shown (tilesFrom i 0 m) ++ listed at m i ≡ shown (tilesFrom (i + 1) 0 m)
-shown-more i m at e =
-    go (m / 2 ^ i % 2) (omega arith) ∙ ap shown next
+-- one digit more
+pub shown-more : (i list at : ℕ) → at ≡ 6 + length (shown (map nameText (namesFrom i 0 list)))
+    → shown (map nameText (namesFrom i 0 list)) ++ listed at (digit list i) ≡ shown (map nameText (namesFrom (i + 1) 0 list))
+shown-more i list at e = go (nameOf (digit list i)) (eqb (digit list i) 0) ∙ ap (λ (l : List TileName). shown (map nameText l)) next
   where
-    ts : List Text
-    ts = tilesFrom i 0 m
+    ks : List TileName
+    ks = namesFrom i 0 list
 
-    next : ts ++ tilesFrom 1 i m ≡ tilesFrom (i + 1) 0 m
-    next = ap (λ (n : ℕ). ts ++ tilesFrom 1 n m) (sym (zero-add i)) ∙ sym (tiles-snoc i 0 m) ∙ ap (λ (n : ℕ). tilesFrom n 0 m) (sym (add-one i))
+    next : ks ++ namesFrom 1 i list ≡ namesFrom (i + 1) 0 list
+    next = ap (λ (n : ℕ). ks ++ namesFrom 1 n list) (sym (zero-add i)) ∙ sym (names-snoc i 0 list) ∙ ap (λ (n : ℕ). namesFrom n 0 list) (sym (add-one i))
 
-    name : Text
-    name = tileName 8 (record { 0 = i })
-
-    go : (x : ℕ) → x < 2 → shown ts ++ cond (eqb x 0) [] (cond (eqb at 6) (ascii " ") (ascii ", ") ++ name) ≡ shown (ts ++ cond (eqb x 1) (name ∷ []) [])
-    go zero h = append-nil (shown ts) ∙ ap shown (sym (append-nil ts))
-    go (suc zero) h = rw (shown-none ts at e) (sym (shown-snoc ts name))
-    go (suc (suc x)) h = absurd (omega arith)
+    go : (k : TileName) (b : Bool) → shown (map nameText ks) ++ cond b [] (cond (eqb at 6) (ascii " ") (ascii ", ") ++ nameText k)
+        ≡ shown (map nameText (ks ++ cond b [] (k ∷ [])))
+    go k true = append-nil (shown (map nameText ks)) ∙ ap (λ (l : List TileName). shown (map nameText l)) (sym (append-nil ks))
+    go k false = rw (shown-none (map nameText ks) at e) (sym (shown-snoc (map nameText ks) (nameText k)) ∙ ap shown (sym (map-append nameText ks (k ∷ []))))
 
 -- the closing brace
 pub zero-none : (ts : List Text) (at : ℕ) → at ≡ 6 + length (shown ts) → at ≡ 6 → ascii "zero {" ++ shown ts ++ ascii "}" ≡ ascii "zero " ++ braced ts
@@ -85,13 +86,18 @@ pub zero-some : (ts : List Text) (at : ℕ) → at ≡ 6 + length (shown ts) →
 zero-some [] at e h = absurd (h e)
 zero-some (t ∷ ts) at e h = refl
 
-pub name-length : (i : ℕ) → i < 10 → length (tileName 8 (record { 0 = i })) ≡ 5
-name-length i h = rw (lt-ltb i 10 h)
-
-pub listed-length : (at m i : ℕ) → i < 10 → length (listed at m i) ≤ 7
-listed-length at m i h = go (eqb (m / 2 ^ i % 2) 0) (eqb at 6)
+-- a name behind what separates it
+pub name-behind : (first : Bool) (k : TileName) → behind (cond first (ascii " za") (ascii ", za")) k ≡ cond first (ascii " ") (ascii ", ") ++ nameText k
+name-behind first k = go first (eqb (k .bytes) 1) (decimal (k .tile .0)) (suffix (k .bytes))
   where
-    go : (b f : Bool) → length (cond b [] (cond f (ascii " ") (ascii ", ") ++ tileName 8 (record { 0 = i }))) ≤ 7
-    go true f = omega arith
-    go false true = omega (arith, name-length i h)
-    go false false = omega (arith, name-length i h)
+    go : (first whole : Bool) (d s : Text)
+        → cond whole (cond first (ascii " za") (ascii ", za")) (cond first (ascii " za") (ascii ", za") ++ d ++ s)
+        ≡ cond first (ascii " ") (ascii ", ") ++ cond whole (ascii "za") (ascii "za" ++ d ++ s)
+    go true true d s = refl
+    go true false d s = refl
+    go false true d s = refl
+    go false false d s = refl
+
+-- a digit's tile has a number of one digit
+pub tile-small : (d : ℕ) → d < 16 → nameOf d .tile .0 < 8
+tile-small d h = ltb-true _ 8 (below (λ (d : ℕ). ltb (nameOf d .tile .0) 8) 16 d refl h)

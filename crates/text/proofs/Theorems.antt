@@ -1,27 +1,32 @@
--- What document 01 asks of a print: the claim of specs/Claims.antt holds for every flags, word and room. Assumes nothing.
+-- What documents 01 and 02 ask of a print: the claims of specs/Claims.antt hold for every flags, word, room and mask. Assumes nothing.
 use mathlib.Core.Path.{_≡_, refl, subst}
 use mathlib.Core.Bool.{Bool, true, false, not, cond}
 use mathlib.Core.Logic.{_↔_}
-use mathlib.Core.List.{List, _++_}
+use mathlib.Core.List.{List, [], _∷_, _++_}
 use mathlib.Core.Option.{Option, none, some}
-use Prim.Native.Nat.{ℕ, _≤_, _<_}
+use Prim.Native.Nat.{ℕ, _+_, _≤_, _<_}
 use native.Mathlib.Omega.{arith}
 use lib.Dec.{eqb, ltb}
 use lib.ListN.{length, drop, length-append, length-drop}
 use lib.Seq.{take-append-seam, drop-append-seam}
-use borrow.Author.Tests.{ltb-true, ltb-false}
+use borrow.Author.Tests.{ltb-true, ltb-false, lt-ltb}
 use Rattle.isa.specs.Refusals.{number, refusalNumber, firstFailure}
-use Rattle.isa.specs.Table.{allFlags}
+use Rattle.isa.specs.Table.{allFlags, wordFor}
 use Rattle.isa.specs.Answers.{describe, missing, absent, roomTests, decodeOf, decodeNumber}
 use Rattle.isa.specs.declared.Instruction.{Instruction}
+use Rattle.isa.specs.declared.Instruction.the-variants.{Zero}
 use Rattle.isa.specs.declared.Refusal.{Refusal}
 use Rattle.isa.specs.declared.Refusal.the-variants.{Flags, Unlisted, FeatureOff, Room}
 use Rattle.isa.specs.declared.Decoded.{Decoded}
 use Rattle.isa.specs.declared.Decoded.the-variants.{Accepted, Refused as NotDecoded}
 use Rattle.isa.proofs.Answers.{decode-refused, room-refused, room-passed}
-use Rattle.text.specs.Spelling.{Text}
+use Rattle.isa.proofs.Tests.{all-every}
+use Rattle.isa.proofs.Theorems.{describe-word, accepted-in-range}
+use Rattle.names.specs.Names.{namesOf}
+use Rattle.names.proofs.Theorems.{one-list}
+use Rattle.text.specs.Spelling.{Text, spelling}
 use Rattle.text.specs.Printing.{textOf, printTests, printed, printOf, filled, printedNumber, printedLength, printNumber, printLength, roomAfter}
-use Rattle.text.specs.Claims.{OfLength, Holds, Prints}
+use Rattle.text.specs.Claims.{OfLength, Holds, Prints, ZeroLine}
 use Rattle.text.proofs.Rooms.{accepted-text}
 use Rattle.text.proofs.Lengths.{line-between}
 
@@ -72,7 +77,7 @@ module _ {Q : Type 0} {t room : List ℕ} where
   unchanged (short h l) z = (refl, refl)
   unchanged (refused h l) z = (refl, refl)
 
-holds : {t room : List ℕ} {d p n : ℕ} {after : List ℕ} → Outcome (OfLength 1 63 t) t room d p n after → p ≡ 0 → Holds t n room after
+holds : {t room : List ℕ} {d p n : ℕ} {after : List ℕ} → Outcome (OfLength 1 47 t) t room d p n after → p ≡ 0 → Holds t n room after
 holds {t} {room} (fits h l) e =
     record {
       whole = refl;
@@ -121,11 +126,11 @@ printed-length (some r) t = refl
 
 outcome : (flags w : ℕ) (room : List ℕ)
     → (let n = length room in
-    Outcome (OfLength 1 63 (textOf w)) (textOf w) room (decodeNumber flags w) (printNumber flags w n) (printLength flags w n) (roomAfter flags w room))
+    Outcome (OfLength 1 47 (textOf w)) (textOf w) room (decodeNumber flags w) (printNumber flags w n) (printLength flags w n) (roomAfter flags w room))
 unfolding printOf roomAfter
 outcome flags w room =
     rw (printed-number (firstFailure (printTests flags w (length room))) (textOf w), printed-length (firstFailure (printTests flags w (length room))) (textOf w))
-    (put-outcome (OfLength 1 63 (textOf w)) flags w (textOf w) room (λ i e. rw (accepted-text flags w i e) (line-between i)))
+    (put-outcome (OfLength 1 47 (textOf w)) flags w (textOf w) room (λ i e. rw (accepted-text flags w i e) (line-between i (accepted-in-range flags w i e))))
 
 -- which number print answers, and what it leaves in the room
 pub prints : (flags w : ℕ) (room : List ℕ) → Prints flags w room
@@ -140,3 +145,11 @@ prints flags w room =
       refused = unchanged o;
       printed = holds o;
     }
+
+-- the line of each ZERO
+pub zero-lines : (mask : ℕ) → mask < 256 → ZeroLine mask
+unfolding textOf spelling
+zero-lines mask h ks s =
+    let e : wordFor (Zero mask) ≡ 0xC0080000 + mask = omega arith in
+    let d = describe-word (Zero mask) (all-every (ltb mask 256 ∷ []) (lt-ltb mask 256 h, tt)) in
+    rw (← e, d, one-list mask h .only ks s)

@@ -28,9 +28,17 @@ examples =
     ∷ record { flags = 15; word = 0x81008018; room = 64; number = 0; bytes = 25; text = ascii "umop4s za0.s, z0.h, z16.h" }
     ∷ record { flags = 15; word = 0x80168358; room = 64; number = 0; bytes = 46; text = ascii "smop4s za0.s, { z10.h-z11.h }, { z22.h-z23.h }" }
     ∷ record { flags = 7; word = 0xC0080000; room = 64; number = 0; bytes = 7; text = ascii "zero {}" }
-    ∷ record { flags = 7; word = 0xC0080011; room = 64; number = 0; bytes = 21; text = ascii "zero { za0.d, za4.d }" }
-    ∷ record { flags = 7; word = 0xC00800FF; room = 63; number = 0; bytes = 63; text = ascii "zero { za0.d, za1.d, za2.d, za3.d, za4.d, za5.d, za6.d, za7.d }" }
-    ∷ record { flags = 7; word = 0xC00800FF; room = 62; number = 12; bytes = 0; text = [] }
+    ∷ record { flags = 7; word = 0xC0080011; room = 64; number = 0; bytes = 14; text = ascii "zero { za0.s }" }
+    ∷ record { flags = 7; word = 0xC0080055; room = 64; number = 0; bytes = 14; text = ascii "zero { za0.h }" }
+    ∷ record { flags = 7; word = 0xC0080057; room = 64; number = 0; bytes = 21; text = ascii "zero { za0.h, za1.d }" }
+    ∷ record { flags = 7; word = 0xC0080077; room = 64; number = 0; bytes = 21; text = ascii "zero { za0.h, za1.s }" }
+    ∷ record { flags = 7; word = 0xC0080088; room = 64; number = 0; bytes = 14; text = ascii "zero { za3.s }" }
+    ∷ record { flags = 7; word = 0xC0080078; room = 64; number = 0; bytes = 35; text = ascii "zero { za3.d, za4.d, za5.d, za6.d }" }
+    ∷ record { flags = 7; word = 0xC00800FE; room = 64; number = 0; bytes = 28; text = ascii "zero { za1.h, za2.s, za4.d }" }
+    ∷ record { flags = 7; word = 0xC00800FF; room = 11; number = 0; bytes = 11; text = ascii "zero { za }" }
+    ∷ record { flags = 7; word = 0xC00800FF; room = 10; number = 12; bytes = 0; text = [] }
+    ∷ record { flags = 7; word = 0x811E8352; room = 47; number = 0; bytes = 47; text = ascii "usmop4s za2.s, { z10.b-z11.b }, { z30.b-z31.b }" }
+    ∷ record { flags = 7; word = 0x811E8352; room = 46; number = 12; bytes = 0; text = [] }
     ∷ record { flags = 7; word = 0xC0080000; room = 0; number = 12; bytes = 0; text = [] }
     ∷ record { flags = 7; word = 0x81000010; room = 0; number = 7; bytes = 0; text = [] }
     ∷ record { flags = 4; word = 0xA1C0001F; room = 0; number = 8; bytes = 0; text = [] }

@@ -2,13 +2,15 @@
 use mathlib.Core.Path.{_≡_}
 use mathlib.Core.Bool.{cond}
 use mathlib.Core.List.{List, [], _∷_, _++_}
-use Prim.Native.Nat.{ℕ, _+_, _/_, _%_, _^_, _≤_}
+use Prim.Native.Nat.{ℕ, _+_, _≤_}
 use lib.Dec.{eqb, ltb}
 use lib.ListN.{length, take, drop}
 use Rattle.isa.specs.declared.Instruction.{Instruction}
 use Rattle.isa.specs.declared.Refusal.the-variants.{Room}
+use Rattle.names.specs.declared.TileName.{TileName}
+use Rattle.names.specs.Lists.{nameOf}
 use Rattle.text.specs.Ascii.{ascii}
-use Rattle.text.specs.Spelling.{Text, tileName, further, spelling}
+use Rattle.text.specs.Spelling.{Text, decimal, suffix, nameText, further, spelling}
 use Rattle.text.specs.declared.Printed.{Printed}
 use Rattle.text.specs.declared.Printed.the-variants.{Length, Refused}
 
@@ -24,12 +26,16 @@ shown [] = []
 shown (t ∷ ts) = ascii " " ++ t ++ further ts
 
 -- where the first stands: behind `zero {`
-abbrev pub firstTileAt : ℕ
-firstTileAt = length (ascii "zero {")
+abbrev pub firstNameAt : ℕ
+firstNameAt = length (ascii "zero {")
 
--- tile i as it stands there, if the mask has it
-abbrev pub listed : ℕ → ℕ → ℕ → Text
-listed at m i = cond (eqb (m / 2 ^ i % 2) 0) [] (cond (eqb at firstTileAt) (ascii " ") (ascii ", ") ++ tileName 8 (record { 0 = i }))
+-- the name of a list's digit as it stands there; 0 is none
+abbrev pub listed : ℕ → ℕ → Text
+listed at d = cond (eqb d 0) [] (cond (eqb at firstNameAt) (ascii " ") (ascii ", ") ++ nameText (nameOf d))
+
+-- a name behind a lead that ends with its za
+abbrev pub behind : Text → TileName → Text
+behind lead k = cond (eqb (k .bytes) 1) lead (lead ++ decimal (k .tile .0) ++ suffix (k .bytes))
 
 -- what print answers and leaves: for a word that passed 1, 7 and 8, its instruction alone decides
 abbrev pub printedIn : Instruction → ℕ → Printed

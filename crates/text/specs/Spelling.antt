@@ -1,7 +1,8 @@
--- How each instruction is spelt (document 01, "Text"): lower case, decimal without leading zeros.
+-- How each instruction is spelt (document 01, "Text", and for ZERO document 02, C-12): lower case, decimal without leading
+-- zeros.
 use mathlib.Core.Bool.{Bool, cond}
-use mathlib.Core.List.{List, [], _∷_, _++_}
-use Prim.Native.Nat.{ℕ, zero, suc, _+_, _/_, _%_, _^_}
+use mathlib.Core.List.{List, [], _∷_, _++_, map}
+use Prim.Native.Nat.{ℕ, _+_, _/_, _%_}
 use lib.Dec.{eqb, ltb}
 use Rattle.isa.specs.Table.{elementBytes, sourceBytes}
 use Rattle.isa.specs.declared.Predicate.{Predicate}
@@ -11,6 +12,8 @@ use Rattle.isa.specs.declared.Source.{Source}
 use Rattle.isa.specs.declared.Source.the-variants.{One, Pair}
 use Rattle.isa.specs.declared.Instruction.{Instruction}
 use Rattle.isa.specs.declared.Instruction.the-variants.{Predicated, Quarter, Zero}
+use Rattle.names.specs.declared.TileName.{TileName}
+use Rattle.names.specs.Names.{namesOf}
 use Rattle.text.specs.Ascii.{ascii}
 
 abbrev pub Text : Type 0
@@ -60,13 +63,9 @@ abbrev pub separated : List Text → Text
 separated [] = []
 separated (t ∷ ts) = t ++ further ts
 
--- ---- ZERO: the 64-bit tiles of the mask, rising
-abbrev pub tilesFrom : ℕ → ℕ → ℕ → List Text
-tilesFrom zero i m = []
-tilesFrom (suc k) i m = cond (eqb (m / 2 ^ i % 2) 1) (tileName 8 (record { 0 = i }) ∷ tilesFrom k (i + 1) m) (tilesFrom k (i + 1) m)
-
-abbrev pub tilesOfMask : ℕ → List Text
-tilesOfMask m = tilesFrom 8 0 m
+-- ---- ZERO: the names of its mask's list, the shortest there is; the one tile of bytes is za
+abbrev pub nameText : TileName → Text
+nameText k = cond (eqb (k .bytes) 1) (ascii "za") (tileName (k .bytes) (k .tile))
 
 abbrev pub braced : List Text → Text
 braced [] = ascii "{}"
@@ -82,4 +81,4 @@ spelling (Predicated op tile pn pm zn zm) =
 spelling (Quarter op tile first second) =
     mnemonic (ascii "mop4") op ++ ascii " "
     ++ separated (tileName (elementBytes op) tile ∷ sourceName (sourceBytes op) first ∷ sourceName (sourceBytes op) second ∷ [])
-spelling (Zero m) = ascii "zero " ++ braced (tilesOfMask m)
+spelling (Zero m) = ascii "zero " ++ braced (map nameText (namesOf m))

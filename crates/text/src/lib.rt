@@ -1,4 +1,4 @@
-// The text of a word, as document 01 spells it.
+// The text of a word, as documents 01 and 02 spell it.
 mod line;
 
 ghost use mathlib.Core.Path.{_≡_};
@@ -38,7 +38,7 @@ fn print_line(i: Instruction, room: &mut [u8]) -> Printed
     ensures { λ r. ⌜ r ≡ printedIn i (length (now (room .entry))) ⌝ }
     ensures { λ _. ⌜ now (room .exit) ≡ filledWith i (now (room .entry)) ⌝ }
 {
-    let mut text = [0u8; 64];
+    let mut text = [0u8; 48];
     let n = line::spell(i, &mut text);
     if room.len() < n {
         return Printed::Refused(Refusal::Room);

@@ -1,27 +1,29 @@
 // Spells an instruction on a line, part by part. Each `put` puts a text at `at` and answers the place after it.
 ghost use mathlib.Core.Path.{_≡_};
 ghost use mathlib.Core.Bool.{true};
-ghost use mathlib.Core.List.{[], _∷_, _++_};
+ghost use mathlib.Core.List.{[], _∷_, _++_, map};
 ghost use Prim.Native.Nat.{_+_, _/_, _%_, _≤_, _<_};
 ghost use lib.ListN.{length};
 ghost use Rattle.isa.specs.Table.{inRange, register, elementBytes};
+ghost use Rattle.names.specs.Lists.{namesIn};
 ghost use Rattle.text.specs.Ascii.{ascii};
-ghost use Rattle.text.specs.Spelling.{spelling, tilesOfMask, decimal, signs, mnemonic, tileName, predicateName, vectorName, suffix, sourceName};
-ghost use Rattle.text.specs.Put.{Put, firstTileAt, listed, shown};
+ghost use Rattle.text.specs.Spelling.{spelling, nameText, decimal, signs, mnemonic, tileName, predicateName, vectorName, suffix, sourceName};
+ghost use Rattle.text.specs.Put.{Put, firstNameAt, listed, behind, shown};
 use isa::Instruction;
 use isa::Operation;
 use isa::Predicate;
 use isa::Source;
 use isa::Tile;
 use isa::Vector;
+use names::TileName;
 
-// Where ZERO's first tile goes: the length of `zero {`.
-const FIRST_TILE_AT: usize = 6;
+// Where ZERO's first name goes: the length of `zero {`.
+const FIRST_NAME_AT: usize = 6;
 
 // The line of an instruction, at the start of line.
 pub(crate) fn spell(i: Instruction, line: &mut [u8]) -> usize
-    requires { ⌜ (64 ≤ length (now line)) × (inRange i ≡ true) ⌝ }
-    ensures { λ r. ⌜ Put 64 (now (line .entry)) 0 (now (line .exit)) r (spelling i) ⌝ }
+    requires { ⌜ (48 ≤ length (now line)) × (inRange i ≡ true) ⌝ }
+    ensures { λ r. ⌜ Put 48 (now (line .entry)) 0 (now (line .exit)) r (spelling i) ⌝ }
 {
     match i {
         Instruction::Predicated {
@@ -52,8 +54,8 @@ fn spell_predicated(
     zn: Vector,
     zm: Vector,
 ) -> usize
-    requires { ⌜ (64 ≤ length (now line)) × (inRange (Instruction.Predicated op tile pn pm zn zm) ≡ true) ⌝ }
-    ensures { λ r. ⌜ Put 64 (now (line .entry)) 0 (now (line .exit)) r (spelling (Instruction.Predicated op tile pn pm zn zm)) ⌝ }
+    requires { ⌜ (48 ≤ length (now line)) × (inRange (Instruction.Predicated op tile pn pm zn zm) ≡ true) ⌝ }
+    ensures { λ r. ⌜ Put 48 (now (line .entry)) 0 (now (line .exit)) r (spelling (Instruction.Predicated op tile pn pm zn zm)) ⌝ }
 {
     let a = put_heading(line, b"mop", op, tile);
     let b = put_predicates(line, a, pn, pm);
@@ -62,8 +64,8 @@ fn spell_predicated(
 
 // Mnemonic, tile and two sources, each a register or a pair.
 fn spell_quarter(line: &mut [u8], op: Operation, tile: Tile, first: Source, second: Source) -> usize
-    requires { ⌜ (64 ≤ length (now line)) × (inRange (Instruction.Quarter op tile first second) ≡ true) ⌝ }
-    ensures { λ r. ⌜ Put 64 (now (line .entry)) 0 (now (line .exit)) r (spelling (Instruction.Quarter op tile first second)) ⌝ }
+    requires { ⌜ (48 ≤ length (now line)) × (inRange (Instruction.Quarter op tile first second) ≡ true) ⌝ }
+    ensures { λ r. ⌜ Put 48 (now (line .entry)) 0 (now (line .exit)) r (spelling (Instruction.Quarter op tile first second)) ⌝ }
 {
     let bytes = isa::source_bytes(op);
     let a = put_heading(line, b"mop4", op, tile);
@@ -71,45 +73,57 @@ fn spell_quarter(line: &mut [u8], op: Operation, tile: Tile, first: Source, seco
     put_source(line, b, bytes, second)
 }
 
-// The tiles between braces; with none, nothing stands between them.
+// The names between braces; with none, nothing stands between them.
 fn spell_zero(line: &mut [u8], mask: u8) -> usize
-    requires { ⌜ 64 ≤ length (now line) ⌝ }
-    ensures { λ r. ⌜ Put 64 (now (line .entry)) 0 (now (line .exit)) r (spelling (Instruction.Zero mask)) ⌝ }
+    requires { ⌜ 48 ≤ length (now line) ⌝ }
+    ensures { λ r. ⌜ Put 48 (now (line .entry)) 0 (now (line .exit)) r (spelling (Instruction.Zero mask)) ⌝ }
 {
     let a = put(line, 0, b"zero {");
-    let b = put_tiles(line, a, mask);
-    if b == FIRST_TILE_AT {
+    let b = put_names(line, a, names::list_of(mask));
+    if b == FIRST_NAME_AT {
         return put(line, b, b"}");
     }
     put(line, b, b" }")
 }
 
-// The tiles of a ZERO's mask, rising, behind the opening brace.
-fn put_tiles(line: &mut [u8], start: usize, mask: u8) -> usize
-    requires { ⌜ (64 ≤ length (now line)) × (start ≡ firstTileAt) ⌝ }
-    ensures { λ r. ⌜ Put 56 (now (line .entry)) start (now (line .exit)) r (shown (tilesOfMask mask)) ⌝ }
+// The names of a list, in its order, behind the opening brace.
+fn put_names(line: &mut [u8], start: usize, list: u16) -> usize
+    requires { ⌜ (48 ≤ length (now line)) × (start ≡ firstNameAt) ⌝ }
+    ensures { λ r. ⌜ Put 32 (now (line .entry)) start (now (line .exit)) r (shown (map nameText (namesIn list))) ⌝ }
 {
     let mut at = start;
     let mut i: u32 = 0;
-    while i < 8 {
-        at = put_listed(line, at, mask, i);
+    while i < 4 {
+        at = put_listed(line, at, (list >> (4 * i)) % 16);
         i += 1;
     }
     at
 }
 
-// Tile i, if the mask has it; the first has no comma before it.
-fn put_listed(line: &mut [u8], at: usize, mask: u8, i: u32) -> usize
-    requires { ⌜ (at + 8 ≤ length (now line)) × (i < 8) ⌝ }
-    ensures { λ r. ⌜ Put 7 (now (line .entry)) at (now (line .exit)) r (listed at mask i) ⌝ }
+// The name of a digit, if it is one; the first has no comma before it.
+fn put_listed(line: &mut [u8], at: usize, digit: u16) -> usize
+    requires { ⌜ (at + 8 ≤ length (now line)) × (digit < 16) ⌝ }
+    ensures { λ r. ⌜ Put 8 (now (line .entry)) at (now (line .exit)) r (listed at digit) ⌝ }
 {
-    if (mask >> i) % 2 == 0 {
+    if digit == 0 {
         return at;
     }
-    if at == FIRST_TILE_AT {
-        return put_name(line, at, b" za", i, b'.', b'd');
+    let name = names::name_of(digit);
+    if at == FIRST_NAME_AT {
+        return put_tile(line, at, b" za", name);
     }
-    put_name(line, at, b", za", i, b'.', b'd')
+    put_tile(line, at, b", za", name)
+}
+
+// What a tile's name has behind za, which stands in the lead; all of ZA has nothing there.
+fn put_tile(line: &mut [u8], at: usize, lead: &[u8], name: TileName) -> usize
+    requires { ⌜ (at + length (now lead) + 4 ≤ length (now line)) × (name .tile .0 < 100) ⌝ }
+    ensures { λ r. ⌜ Put (length (now (lead .entry)) + 4) (now (line .entry)) at (now (line .exit)) r (behind (now (lead .entry)) name) ⌝ }
+{
+    if name.bytes == 1 {
+        return put(line, at, lead);
+    }
+    put_name(line, at, lead, name.tile.0, b'.', suffix_letter(name.bytes))
 }
 
 // What both families begin with: the mnemonic and the tile.

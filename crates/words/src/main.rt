@@ -17,7 +17,7 @@ const ROOM_TOO_SHORT: u32 = 12;
 const FILL: u8 = 0x5A;
 
 // Each text must be shorter than this.
-const TEXT_ROOM: usize = 64;
+const TEXT_ROOM: usize = 48;
 
 // Where a line's text starts.
 const TEXT_AT: usize = 9;
@@ -74,7 +74,7 @@ fn line_outcome(line: &[u8]) -> Outcome {
     }
 }
 
-// A line agrees if print does in a room of 64 bytes, in one of the text's length, and in one a byte shorter, and if read
+// A line agrees if print does in a room of 48 bytes, in one of the text's length, and in one a byte shorter, and if read
 // gives the word back.
 fn word_outcome(w: u32, listed: &[u8]) -> Outcome {
     let mut room = [FILL; TEXT_ROOM];

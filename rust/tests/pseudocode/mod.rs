@@ -5,11 +5,13 @@ mod execute;
 mod fields;
 mod read;
 mod text;
+mod tiles;
 
 pub use execute::{Bench, MOST_WORDS, execute, run};
 pub use fields::describe;
 pub use read::read;
 pub use text::print;
+pub use tiles::{NAMES, Name, shortest};
 
 /// The features, summed to flags.
 const SME: u32 = 1;

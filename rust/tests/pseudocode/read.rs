@@ -1,6 +1,6 @@
 //! The word of a line of text, taken apart by the rules for text; the ranges are for `encode` to test.
 
-use super::{Instruction, OuterProduct, Source, Sources, decode, encode};
+use super::{Instruction, NAMES, OuterProduct, Source, Sources, decode, encode, shortest};
 
 /// The word of a line, or refusal 1, 13 or 8.
 pub fn read(flags: u32, line: &[u8]) -> Result<u32, u32> {
@@ -47,24 +47,21 @@ impl Rest<'_> {
         str::from_utf8(number).ok()?.parse::<u8>().ok().map(u32::from)
     }
 
-    /// The list of a ZERO as a mask: 64-bit tiles, rising.
+    /// The list of a ZERO as a mask. Any list of names has one, but only the shortest, in order, is a text.
     fn tiles(&mut self) -> Option<u8> {
         if self.skip("{}").is_some() {
             return Some(0);
         }
-        self.skip("{ za")?;
-        let mut mask = 0;
+        self.skip("{ ")?;
+        let (mut list, mut mask) = (Vec::new(), 0);
         loop {
-            let tile = self.number()?;
-            self.skip(".d")?;
-            if tile > 7 || mask >> tile != 0 {
-                return None;
-            }
-            mask |= 1 << tile;
+            let name = NAMES.into_iter().find(|(text, _)| self.skip(text).is_some())?;
+            list.push(name);
+            mask |= name.1;
             if self.skip(" }").is_some() {
-                return Some(mask);
+                return (list == shortest(mask)).then_some(mask);
             }
-            self.skip(", za")?;
+            self.skip(", ")?;
         }
     }
 

@@ -1,6 +1,6 @@
 //! The text of an instruction, and its copy into a lent room.
 
-use super::{Instruction, OuterProduct, Source, Sources, decode};
+use super::{Instruction, OuterProduct, Source, Sources, decode, shortest};
 use std::fmt;
 
 /// Writes the text of a word to the start of the room and gives its length, or refuses by 1, 7, 8 or 12.
@@ -12,14 +12,13 @@ pub fn print(flags: u32, word: u32, room: &mut [u8]) -> Result<usize, u32> {
 }
 
 impl fmt::Display for Instruction {
-    /// ZERO lists its 64-bit tiles, rising.
+    /// ZERO has the shortest list of tiles.
     fn fmt(&self, f: &mut fmt::Formatter) -> fmt::Result {
         match self {
             Instruction::Outer(op) => op.fmt(f),
             Instruction::Zero { mask: 0 } => f.write_str("zero {}"),
             Instruction::Zero { mask } => {
-                let set = (0..8).filter(|i| mask >> i & 1 == 1);
-                let names: Vec<String> = set.map(|i| format!("za{i}.d")).collect();
+                let names: Vec<&str> = shortest(*mask).iter().map(|&(name, _)| name).collect();
                 write!(f, "zero {{ {} }}", names.join(", "))
             }
         }

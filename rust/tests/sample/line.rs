@@ -1,6 +1,6 @@
 //! Lines of text and what can be wrong with them, for `read`.
 
-use super::Random;
+use super::{Random, tiles};
 use crate::pseudocode;
 use std::iter;
 
@@ -15,10 +15,10 @@ pub struct Damage {
 }
 
 /// How many sorts of damage are to a byte or a part of a line; these come first.
-pub const SMALL: usize = 14;
+pub const SMALL: usize = 17;
 
 /// The sorts of damage.
-pub const DAMAGES: [Damage; 19] = [
+pub const DAMAGES: [Damage; 22] = [
     Damage { name: "a byte changed", harm: change, leaves_texts: true },
     Damage { name: "a byte left out", harm: leave_out, leaves_texts: true },
     Damage { name: "a byte doubled", harm: double, leaves_texts: true },
@@ -32,7 +32,10 @@ pub const DAMAGES: [Damage; 19] = [
     Damage { name: "operands exchanged", harm: exchange_operands, leaves_texts: true },
     Damage { name: "an operand repeated", harm: repeat_operand, leaves_texts: true },
     Damage { name: "braces", harm: braces, leaves_texts: false },
-    Damage { name: "tiles in another order", harm: exchange_tiles, leaves_texts: false },
+    Damage { name: "tiles in another order", harm: tiles::exchange, leaves_texts: false },
+    Damage { name: "a tile in halves", harm: tiles::split, leaves_texts: false },
+    Damage { name: "a tile beside one that holds it", harm: tiles::repeat, leaves_texts: false },
+    Damage { name: "another tile", harm: tiles::rename, leaves_texts: true },
     Damage { name: "cut short", harm: cut, leaves_texts: false },
     Damage { name: "a line end", harm: line_end, leaves_texts: false },
     Damage { name: "a great length", harm: lengthen, leaves_texts: false },
@@ -160,17 +163,6 @@ fn braces(random: &mut Random, line: Vec<u8>) -> Vec<u8> {
     let mut parts = name_and_operands(&line);
     let [at, _] = two_operands(random, &parts);
     parts[at] = [b"{ ", &parts[at][..], b" }"].concat();
-    parts.concat()
-}
-
-/// Exchanges two tiles of a ZERO's list; the ZERO is another word, as few lines are one.
-fn exchange_tiles(random: &mut Random, _: Vec<u8>) -> Vec<u8> {
-    let two_tiles = |mask: &u32| mask.count_ones() > 1;
-    let mask = iter::repeat_with(|| random.u32() & 0xFF).find(two_tiles).expect("a mask");
-    let mut parts = name_and_operands(&text(0xC008_0000 | mask));
-    let (first, last) = (4, parts.len() - 3);
-    let one = first + 2 * random.below((last - first) as u64 / 2) as usize;
-    parts.swap(one, one + 2);
     parts.concat()
 }
 

@@ -6,6 +6,7 @@ mod instruction;
 mod line;
 mod random;
 mod tally;
+mod tiles;
 
 pub use case::Case;
 pub use guarded::Guarded;

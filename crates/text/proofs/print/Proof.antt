@@ -11,8 +11,7 @@ use Rattle.text.proofs.print.Tie as tie
 print-line-requires : tie.Need-print-line-requires
 print-line-requires c κs =
     let arm = c .before .before in
-    let start = arm .before .before .before .before in
-    accepted-in-range _ _ _ (start .fits .word .fits) (sym (arm .before .before .decode .ensures .0) ∙ arm .i .given .1)
+    accepted-in-range _ _ _ (sym (arm .before .before .decode .ensures .0) ∙ arm .i .given .1)
 
 returns : tie.Need-returns
 returns c =

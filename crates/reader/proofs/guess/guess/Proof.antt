@@ -6,16 +6,18 @@ use Rattle.reader.proofs.guess.guess.Tie as tie
 
 returns : tie.Need-returns
 returns c =
-    let b = c .before in
-    let a = b .before .before .before .args in
-    zero-guess (a .line .now) _ _ (b .byte .ensures) (b .before .scan .ensures) (c .if1 .taken)
+    let e = c .before in
+    let b = e .before in
+    let a = b .before .before .args in
+    zero-guess (a .line .now) _ (b .byte .ensures) _ (e .if1 .taken) (c .mask-of .ensures)
 
 returns-2 : tie.Need-returns-2
 returns-2 c =
-    let e = c .before .before .before .before in
+    let all = c .before .before .before .before in
+    let e = all .before in
     let b = e .before in
-    let a = b .before .before .before .args in
-    outer-guess (a .line .now) _ _ (b .byte .ensures) (b .before .scan .ensures) _ _ (e .if1 .left) (c .before .operation-of .ensures) (c .outer-of .ensures)
+    let a = b .before .before .args in
+    outer-guess (a .line .now) _ (b .byte .ensures) _ _ _ (e .if1 .left) (all .scan .ensures) (c .before .operation-of .ensures) (c .outer-of .ensures)
 
 pub guess-spec : {M : Type 1} → statement M
 guess-spec =
@@ -24,6 +26,7 @@ guess-spec =
     (λ c κs. search needs)
     (λ c κs. search needs)
     returns
+    (λ c κs. search needs)
     (λ c κs. search needs)
     (λ c κs. search needs)
     returns-2)

@@ -1,0 +1,163 @@
+-- The rule gives each mask its shortest list, and there is no other: the claim of specs/Claims.antt, for every mask. What a
+-- list of names must pass to be the shortest is one test, which is computed for the rule's lists and for the table's.
+-- Assumes nothing.
+use mathlib.Core.Path.{_≡_, _∙_, sym, ap, refl}
+use mathlib.Core.Bool.{Bool, true, false, Bool·beq, _&&_, _||_, true≢false}
+use mathlib.Core.List.{List, [], _∷_, map}
+use Prim.Native.Nat.{ℕ, _+_, _/_, _%_, _^_, _≤_, _<_}
+use native.Mathlib.Omega.{arith}
+use lib.Dec.{eqb, leb}
+use lib.ListN.{length, getD}
+use borrow.Author.Tests.{eqb-true, leb-true}
+use Rattle.isa.specs.Row.{every}
+use Rattle.isa.proofs.Tests.{every-all}
+use Rattle.isa.proofs.Rows.{both}
+use Rattle.storage.specs.Tile.{inTile, masked}
+use Rattle.names.specs.declared.TileName.{TileName}
+use Rattle.names.specs.Names.{names, sameName, among, held, lowest, rising, Covers, Shortest, everyBelow, namesOf}
+use Rattle.names.specs.Lists.{namesIn, Table}
+use Rattle.names.specs.Claims.{OneList}
+use Rattle.names.proofs.Tests.{below, everyEntry, entry}
+use Rattle.names.proofs.Members.{same-name, each}
+use Rattle.names.proofs.Counting.{apart, no-fewer}
+use Rattle.names.proofs.Orders.{same-list}
+
+-- ---- the test: names, of the mask's rows, in order; and no name inside the mask holds the lowest rows of two of them
+abbrev isName : TileName → Bool
+isName k = among k names
+
+abbrev lows : List TileName → List ℕ
+lows ks = map lowest ks
+
+abbrev tests : ℕ → List TileName → List Bool
+tests mask ks =
+    every (map isName ks)
+    ∷ everyBelow (λ (r : ℕ). Bool·beq (held ks r) (masked mask r)) 8
+    ∷ rising ks
+    ∷ every (map (masked mask) (lows ks))
+    ∷ every (map (apart mask (lows ks)) names)
+    ∷ []
+
+abbrev pub passes : ℕ → List TileName → Bool
+passes mask ks = every (tests mask ks)
+
+-- ---- which rows a name holds repeats after eight
+abbrev sized : ℕ → Bool
+sized b = eqb b 1 || (eqb b 2 || (eqb b 4 || eqb b 8))
+
+tile-repeats : (b t r : ℕ) → sized b ≡ true → inTile b t r ≡ inTile b t (r % 8)
+tile-repeats b t r h = by-1 (eqb b 1) refl h
+  where
+    sized-as : (n : ℕ) → eqb b n ≡ true → r % n ≡ r % 8 % n → inTile b t r ≡ inTile b t (r % 8)
+    sized-as n e p = rw (eqb-true b n e) (ap (λ (x : ℕ). eqb x t) p)
+
+    by-4 : (c : Bool) → eqb b 4 ≡ c → c || eqb b 8 ≡ true → inTile b t r ≡ inTile b t (r % 8)
+    by-4 true e k = sized-as 4 e (omega arith)
+    by-4 false e k = sized-as 8 k (omega arith)
+
+    by-2 : (c : Bool) → eqb b 2 ≡ c → c || (eqb b 4 || eqb b 8) ≡ true → inTile b t r ≡ inTile b t (r % 8)
+    by-2 true e k = sized-as 2 e (omega arith)
+    by-2 false e k = by-4 (eqb b 4) refl k
+
+    by-1 : (c : Bool) → eqb b 1 ≡ c → c || (eqb b 2 || (eqb b 4 || eqb b 8)) ≡ true → inTile b t r ≡ inTile b t (r % 8)
+    by-1 true e k = sized-as 1 e (omega arith)
+    by-1 false e k = by-2 (eqb b 2) refl k
+
+held-repeats : (ks : List TileName) (r : ℕ) → every (map isName ks) ≡ true → held ks r ≡ held ks (r % 8)
+held-repeats [] r p = refl
+held-repeats (k ∷ ks) r p =
+    let (a, b) = both (isName k) (every (map isName ks)) p in
+    rw (tile-repeats (k .bytes) (k .tile .0) r (each (λ (k : TileName). sized (k .bytes)) k names refl a), held-repeats ks r b)
+
+masked-repeats : (mask r : ℕ) → masked mask (r % 8) ≡ masked mask r
+masked-repeats mask r = ap (λ (t : ℕ). eqb (mask / 2 ^ t % 2) 1) (omega arith)
+
+-- ---- what passes is the shortest
+beq-eq : (a b : Bool) → Bool·beq a b ≡ true → a ≡ b
+beq-eq true true h = refl
+beq-eq true false h = sym h
+beq-eq false true h = h
+beq-eq false false h = refl
+
+lows-length : (ks : List TileName) → length (lows ks) ≡ length ks
+lows-length [] = refl
+lows-length (k ∷ ks) = rw (lows-length ks)
+
+pub shortest : (mask : ℕ) (ks : List TileName) → passes mask ks ≡ true → Shortest mask ks
+shortest mask ks h =
+    let (n, (e, (o, (l, (a, _))))) = every-all (tests mask ks) h in
+    record {
+      covers =
+          record {
+            names-all = n;
+            exactly =
+                λ r.
+                held-repeats ks r n
+                ∙ beq-eq _ _ (below (λ (r : ℕ). Bool·beq (held ks r) (masked mask r)) 8 (r % 8) e (omega arith))
+                ∙ masked-repeats mask r;
+          };
+      least = λ js c. omega (arith, lows-length ks, no-fewer (lows ks) (λ (j : TileName). false) a l c (λ j m. refl));
+      order = o;
+    }
+
+-- ---- and the only one: a list without one of its names needs one name more, for the second row of that name
+abbrev second : TileName → ℕ
+second k = k .tile .0 + k .bytes
+
+abbrev needed : ℕ → List TileName → TileName → Bool
+needed mask ks k = masked mask (second k) && every (map (λ (j : TileName). sameName j k || apart mask (second k ∷ lows ks) j) names)
+
+module _ (mask : ℕ) (ks : List TileName) (p : passes mask ks ≡ true) (q : every (map (needed mask ks) ks) ≡ true) where
+  named-too : {js : List TileName} → Shortest mask js → (k : TileName) → among k ks ≡ true → among k js ≡ true
+  named-too {js} s k m = go (among k js) refl
+    where
+      other : among k js ≡ false → (j : TileName) → among j js ≡ true → (b : Bool) → sameName j k ≡ b → b ≡ false
+      other e j n true d = sym (rw (same-name j k d) at n) ∙ e
+      other e j n false d = refl
+
+      go : (b : Bool) → among k js ≡ b → b ≡ true
+      go true e = refl
+      go false e =
+          let (a, b) = both (masked mask (second k)) _ (each (needed mask ks) k ks q m) in
+          let (_, (_, (_, (l, _)))) = every-all (tests mask ks) p in
+          let f = no-fewer (second k ∷ lows ks) (λ (j : TileName). sameName j k) b (rw a l) (s .covers) (λ j n. other e j n (sameName j k) refl) in
+          absurd (omega (arith, lows-length ks, f, s .least ks (shortest mask ks p .covers)))
+
+  only-one : {js : List TileName} → Shortest mask js → js ≡ ks
+  only-one {js} s =
+      let o = shortest mask ks p in
+      same-list js ks (s .order) (o .order) (named-too s) .1 (s .least ks (o .covers))
+
+-- ---- every mask
+abbrev right : ℕ → Bool
+right mask = passes mask (namesOf mask) && every (map (needed mask (namesOf mask)) (namesOf mask))
+
+rule-passes : everyBelow right 256 ≡ true
+unfolding namesOf
+rule-passes = refl
+
+pub one-list : (mask : ℕ) → mask < 256 → OneList mask
+one-list mask h =
+    let ks = namesOf mask in
+    let (p, q) = both (passes mask ks) (every (map (needed mask ks) ks)) (below right 256 mask rule-passes h) in
+    record { shortest = shortest mask ks p; only = λ js s. only-one mask ks p q s }
+
+-- a table whose entries all pass is right
+abbrev pub entryPasses : ℕ → ℕ → Bool
+entryPasses mask list = passes mask (namesIn list)
+
+pub table-right : (lists : List ℕ) → length lists ≡ 256 → everyEntry entryPasses 0 lists ≡ true → Table lists
+table-right lists e p =
+    record {
+      size = e;
+      each =
+          λ mask h.
+          let list = getD lists mask 0 in
+          let s = shortest mask (namesIn list) (entry entryPasses lists mask p (omega arith)) in
+          record { shortest = s; is = one-list mask h .only (namesIn list) s };
+    }
+
+-- no list has more than four names
+pub few-names : (mask : ℕ) → mask < 256 → length (namesOf mask) ≤ 4
+unfolding namesOf
+few-names mask h = leb-true _ 4 (below (λ (m : ℕ). leb (length (namesOf m)) 4) 256 mask refl h)
