@@ -1,9 +1,9 @@
 -- No list is shorter, by counting: where no name inside the mask holds two of some rows of the mask, a list that covers the
 -- mask has a name for each of them. Assumes nothing.
 use mathlib.Core.Path.{_≡_, _∙_, sym, refl}
-use mathlib.Core.Bool.{Bool, true, false, not, cond, _||_, true≢false}
+use mathlib.Core.Bool.{Bool, true, false, not, cond, _||_, or-false}
 use mathlib.Core.List.{List, [], _∷_, map}
-use Prim.Native.Nat.{ℕ, _+_, _≤_, _<_}
+use Prim.Native.Nat.{ℕ, _+_, _≤_}
 use native.Mathlib.Omega.{arith}
 use lib.Dec.{leb}
 use lib.ListN.{length}
@@ -12,7 +12,7 @@ use Rattle.isa.specs.Row.{every}
 use Rattle.isa.proofs.Rows.{both}
 use Rattle.storage.specs.Tile.{masked}
 use Rattle.names.specs.declared.TileName.{TileName}
-use Rattle.names.specs.Names.{names, among, holds, held, inside, Covers}
+use Rattle.names.specs.Names.{names, among, isName, holds, held, inside, Covers}
 use Rattle.names.proofs.Tests.{all-below}
 use Rattle.names.proofs.Members.{each, all-of, member-held}
 
@@ -70,9 +70,5 @@ module _ {mask : ℕ} (rs : List ℕ) (left : TileName → Bool) where
     where
       few : (j : TileName) → among j js ≡ true → leb (count (holds j) rs) 1 ≡ true
       few j m =
-          let t = each (λ (j : TileName). left j || apart mask rs j) j names p (each (λ (k : TileName). among k names) j js (c .names-all) m) in
-          go (leb (count (holds j) rs) 1) (rw (other j m, covered-inside c j m) at t)
-        where
-          go : (b : Bool) → b || false ≡ true → b ≡ true
-          go true e = refl
-          go false e = e
+          let t = each (λ (j : TileName). left j || apart mask rs j) j names p (each isName j js (c .names-all) m) in
+          sym (or-false (leb (count (holds j) rs) 1)) ∙ rw (other j m, covered-inside c j m) at t

@@ -2,9 +2,10 @@
 -- list of names must pass to be the shortest is one test, which is computed for the rule's lists and for the table's.
 -- Assumes nothing.
 use mathlib.Core.Path.{_≡_, _∙_, sym, ap, refl}
-use mathlib.Core.Bool.{Bool, true, false, Bool·beq, _&&_, _||_, true≢false}
+use mathlib.Core.Bool.{Bool, true, false, Bool·beq, _&&_, _||_}
 use mathlib.Core.List.{List, [], _∷_, map}
 use Prim.Native.Nat.{ℕ, _+_, _/_, _%_, _^_, _≤_, _<_}
+use native.Mathlib.Nat.{mod-mod-of-dvd, dvd-of-mod-eq-zero}
 use native.Mathlib.Omega.{arith}
 use lib.Dec.{eqb, leb}
 use lib.ListN.{length, getD}
@@ -12,10 +13,10 @@ use borrow.Author.Tests.{eqb-true, leb-true}
 use Rattle.isa.specs.Row.{every}
 use Rattle.isa.proofs.Tests.{every-all}
 use Rattle.isa.proofs.Rows.{both}
-use Rattle.storage.specs.Tile.{inTile, masked}
+use Rattle.storage.specs.Tile.{masked}
 use Rattle.names.specs.declared.TileName.{TileName}
-use Rattle.names.specs.Names.{names, sameName, among, held, lowest, rising, Covers, Shortest, everyBelow, namesOf}
-use Rattle.names.specs.Lists.{namesIn, Table}
+use Rattle.names.specs.Names.{names, sameName, among, isName, holds, held, lowest, rising, Shortest, everyBelow, namesOf}
+use Rattle.names.specs.Lists.{numberOf, namesIn, Table}
 use Rattle.names.specs.Claims.{OneList}
 use Rattle.names.proofs.Tests.{below, everyEntry, entry}
 use Rattle.names.proofs.Members.{same-name, each}
@@ -23,9 +24,6 @@ use Rattle.names.proofs.Counting.{apart, no-fewer}
 use Rattle.names.proofs.Orders.{same-list}
 
 -- ---- the test: names, of the mask's rows, in order; and no name inside the mask holds the lowest rows of two of them
-abbrev isName : TileName → Bool
-isName k = among k names
-
 abbrev lows : List TileName → List ℕ
 lows ks = map lowest ks
 
@@ -41,33 +39,17 @@ tests mask ks =
 abbrev pub passes : ℕ → List TileName → Bool
 passes mask ks = every (tests mask ks)
 
--- ---- which rows a name holds repeats after eight
-abbrev sized : ℕ → Bool
-sized b = eqb b 1 || (eqb b 2 || (eqb b 4 || eqb b 8))
-
-tile-repeats : (b t r : ℕ) → sized b ≡ true → inTile b t r ≡ inTile b t (r % 8)
-tile-repeats b t r h = by-1 (eqb b 1) refl h
-  where
-    sized-as : (n : ℕ) → eqb b n ≡ true → r % n ≡ r % 8 % n → inTile b t r ≡ inTile b t (r % 8)
-    sized-as n e p = rw (eqb-true b n e) (ap (λ (x : ℕ). eqb x t) p)
-
-    by-4 : (c : Bool) → eqb b 4 ≡ c → c || eqb b 8 ≡ true → inTile b t r ≡ inTile b t (r % 8)
-    by-4 true e k = sized-as 4 e (omega arith)
-    by-4 false e k = sized-as 8 k (omega arith)
-
-    by-2 : (c : Bool) → eqb b 2 ≡ c → c || (eqb b 4 || eqb b 8) ≡ true → inTile b t r ≡ inTile b t (r % 8)
-    by-2 true e k = sized-as 2 e (omega arith)
-    by-2 false e k = by-4 (eqb b 4) refl k
-
-    by-1 : (c : Bool) → eqb b 1 ≡ c → c || (eqb b 2 || (eqb b 4 || eqb b 8)) ≡ true → inTile b t r ≡ inTile b t (r % 8)
-    by-1 true e k = sized-as 1 e (omega arith)
-    by-1 false e k = by-2 (eqb b 2) refl k
+-- ---- which rows a name holds repeats after eight, as an element's bytes divide eight
+name-repeats : (k : TileName) (r : ℕ) → isName k ≡ true → holds k r ≡ holds k (r % 8)
+name-repeats k r n =
+    let d = each (λ (k : TileName). eqb (8 % k .bytes) 0) k names refl n in
+    ap (λ (t : ℕ). eqb t (k .tile .0)) (sym (mod-mod-of-dvd (k .bytes) r (dvd-of-mod-eq-zero (k .bytes) (eqb-true _ 0 d))))
 
 held-repeats : (ks : List TileName) (r : ℕ) → every (map isName ks) ≡ true → held ks r ≡ held ks (r % 8)
 held-repeats [] r p = refl
 held-repeats (k ∷ ks) r p =
     let (a, b) = both (isName k) (every (map isName ks)) p in
-    rw (tile-repeats (k .bytes) (k .tile .0) r (each (λ (k : TileName). sized (k .bytes)) k names refl a), held-repeats ks r b)
+    rw (name-repeats k r a, held-repeats ks r b)
 
 masked-repeats : (mask r : ℕ) → masked mask (r % 8) ≡ masked mask r
 masked-repeats mask r = ap (λ (t : ℕ). eqb (mask / 2 ^ t % 2) 1) (omega arith)
@@ -144,7 +126,7 @@ one-list mask h =
 
 -- a table whose entries all pass is right
 abbrev pub entryPasses : ℕ → ℕ → Bool
-entryPasses mask list = passes mask (namesIn list)
+entryPasses mask list = eqb list (numberOf (namesIn list)) && passes mask (namesIn list)
 
 pub table-right : (lists : List ℕ) → length lists ≡ 256 → everyEntry entryPasses 0 lists ≡ true → Table lists
 table-right lists e p =
@@ -153,8 +135,10 @@ table-right lists e p =
       each =
           λ mask h.
           let list = getD lists mask 0 in
-          let s = shortest mask (namesIn list) (entry entryPasses lists mask p (omega arith)) in
-          record { shortest = s; is = one-list mask h .only (namesIn list) s };
+          let (d, t) = both (eqb list (numberOf (namesIn list))) (passes mask (namesIn list)) (entry entryPasses lists mask p (omega arith)) in
+          let s = shortest mask (namesIn list) t in
+          let o = one-list mask h .only (namesIn list) s in
+          record { is = eqb-true _ _ d ∙ ap numberOf o; names = o; shortest = s };
     }
 
 -- no list has more than four names

@@ -9,11 +9,20 @@ use Rattle.names.specs.declared.TileName.{TileName}
 use Rattle.names.specs.Names.{tileNamed, Shortest, namesOf}
 
 -- a name as a digit: the sum of the bytes of an element and the tile's number
+abbrev pub digitOf : TileName → ℕ
+digitOf k = k .bytes + k .tile .0
+
+-- a list as hexadecimal digits, the lowest first
+abbrev pub numberOf : List TileName → ℕ
+numberOf [] = 0
+numberOf (k ∷ ks) = digitOf k + 16 * numberOf ks
+
+-- the name of a digit
 abbrev pub nameOf : ℕ → TileName
 nameOf d =
     cond (ltb d 2) (tileNamed 1 0) (cond (ltb d 4) (tileNamed 2 (d - 2)) (cond (ltb d 8) (tileNamed 4 (d - 4)) (tileNamed 8 (d - 8))))
 
--- hexadecimal digit i, the lowest being digit 0
+-- digit i, the lowest being digit 0
 abbrev pub digit : ℕ → ℕ → ℕ
 digit list i = list / 2 ^ (4 * i) % 16
 
@@ -25,10 +34,11 @@ namesFrom (suc n) i list = cond (eqb (digit list i) 0) (namesFrom n (i + 1) list
 abbrev pub namesIn : ℕ → List TileName
 namesIn list = namesFrom 4 0 list
 
--- a number has the list of a mask: the shortest, in order
+-- a number is the list of a mask: the shortest, in order
 pub record ListOf (mask list : ℕ) : Type 0 where
+  pub is : list ≡ numberOf (namesOf mask)
+  pub names : namesIn list ≡ namesOf mask
   pub shortest : Shortest mask (namesIn list)
-  pub is : namesIn list ≡ namesOf mask
 
 -- a table with the list of every mask
 pub record Table (lists : List ℕ) : Type 0 where

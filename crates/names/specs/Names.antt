@@ -31,6 +31,9 @@ abbrev pub among : TileName → List TileName → Bool
 among k [] = false
 among k (j ∷ js) = sameName k j || among k js
 
+abbrev pub isName : TileName → Bool
+isName k = among k names
+
 -- ---- rows
 abbrev pub holds : TileName → ℕ → Bool
 holds k r = inTile (k .bytes) (k .tile .0) r
@@ -42,7 +45,7 @@ held (k ∷ ks) r = holds k r || held ks r
 
 -- a list of names that holds the rows which ZERO with this mask clears, and no other row
 pub record Covers (mask : ℕ) (ks : List TileName) : Type 0 where
-  pub names-all : every (map (λ (k : TileName). among k names) ks) ≡ true
+  pub names-all : every (map isName ks) ≡ true
   pub exactly : (r : ℕ) → held ks r ≡ masked mask r
 
 -- ---- order: 64-bit tile t has row t and every eighth after it

@@ -22,7 +22,6 @@ use Rattle.isa.specs.declared.Decoded.the-variants.{Accepted, Refused as NotDec
 use Rattle.isa.proofs.Answers.{decode-refused, room-refused, room-passed}
 use Rattle.isa.proofs.Tests.{all-every}
 use Rattle.isa.proofs.Theorems.{describe-word, accepted-in-range}
-use Rattle.names.specs.Names.{namesOf}
 use Rattle.names.proofs.Theorems.{one-list}
 use Rattle.text.specs.Spelling.{Text, spelling}
 use Rattle.text.specs.Printing.{textOf, printTests, printed, printOf, filled, printedNumber, printedLength, printNumber, printLength, roomAfter}

@@ -1,7 +1,6 @@
 -- `names::lists::list_of` meets its contract: every entry of the table passes the test of a shortest list, which is computed
 -- here, once over the whole table. Assumes nothing.
 use mathlib.Core.Path.{refl}
-use borrow.Author.Needs.{needs}
 use Rattle.names.proofs.Theorems.{table-right}
 use Rattle.names.proofs.lists.list_of.Statement.{statement}
 use Rattle.names.proofs.lists.list_of.Tie as tie

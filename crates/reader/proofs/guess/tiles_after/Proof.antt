@@ -1,5 +1,4 @@
 -- `reader::guess::tiles_after` meets its contract: a power below 256 is not cut by the shift. Assumes nothing.
-use mathlib.Core.Path.{_≡_}
 use Prim.Native.Nat.{_*_, _^_, _%_, _≤_}
 use Rattle.reader.proofs.Laws.{share-small, power-cut}
 use borrow.Author.Needs.{needs}

@@ -23,7 +23,7 @@ returns c =
     let word = list .before .before .before .before in
     put-as (word .put .ensures then names .put-names .ensures then brace .put2 .ensures)
     (unfold spelling in
-    rw (← list .list-of .ensures .is)
+    rw (← list .list-of .ensures .names)
     (zero-none (texts (list .list-of .result)) (names .put-names .result) (omega (arith, names .put-names .ensures .ends, word .put .ensures)) (test .if1 .taken)))
     (omega arith)
 
@@ -36,7 +36,7 @@ returns-2 c =
     let word = list .before .before .before .before in
     put-as (word .put .ensures then names .put-names .ensures then brace .put3 .ensures)
     (unfold spelling in
-    rw (← list .list-of .ensures .is)
+    rw (← list .list-of .ensures .names)
     (zero-some (texts (list .list-of .result)) (names .put-names .result) (omega (arith, names .put-names .ensures .ends, word .put .ensures)) (test .if1 .left)))
     (omega arith)
 
