@@ -35,8 +35,8 @@ uint32_t birdaghol_decode(uint32_t flags, uint32_t word);
 uint64_t birdaghol_print(uint32_t flags, uint32_t word, uint8_t *room, size_t room_len);
 
 /* The word whose text a line is, byte for byte as birdaghol_print gives it: with another case, a space more, a leading
-   zero, a line end, or another list of tiles for a ZERO than the shortest, it is no text. Value: the word. Refusal: 1,
-   13 or 8, tested in this order. */
+   zero, a line end, or another list of tiles for a ZERO than the shortest, in order, it is no text. Value: the word.
+   Refusal: 1, 13 or 8, tested in this order. */
 uint64_t birdaghol_read(uint32_t flags, const uint8_t *line, size_t line_len);
 
 /* The word of a predicated outer product. Value: the word. Refusal: 11, unless element_bytes is 4 or 8; products is 4,

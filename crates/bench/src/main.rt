@@ -286,7 +286,7 @@ fn list_of_umopa() -> [u32; LIST_ROOM]
 // A word's text, or its refusal.
 fn text_of(flags: u32, word: u32) {
     word_name(flags, word);
-    let mut room = [0u8; 64];
+    let mut room = [0u8; 47];
     match text::print(flags, word, &mut room) {
         Printed::Length(n) => io::write_all(STDOUT_FILENO, first(&room, n)),
         Printed::Refused(r) => decimal(b"refused ", isa::number(r) as u64),

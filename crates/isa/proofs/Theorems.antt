@@ -139,7 +139,7 @@ pub missing-word : (flags : ℕ) (i : Instruction) → inRange i ≡ true → mi
 unfolding missing
 missing-word flags i h = rw (lookup-found (wordFor i) (in-table i) (word-described i h .hit))
 
--- what describes a word is in range, and the word is its word
+-- what a number is described as, some line made of it
 line-found : (w : ℕ) (i : Instruction) → describe w ≡ some i → (e : Entry) × (lookup table w ≡ some e) × (described e w ≡ i)
 unfolding describe
 line-found w i p = go (lookup table w) refl p
@@ -152,6 +152,7 @@ line-found w i p = go (lookup table w) refl p
 pub described-in-range : (w : ℕ) (i : Instruction) → describe w ≡ some i → inRange i ≡ true
 described-in-range w i p = let (e, q, s) = line-found w i p in rw s at (described-range w (lookup-some table e w q .0))
 
+-- and of a word it is the description, whose word that is
 pub described-is : (w : ℕ) (i : Instruction) → w < 2 ^ 32 → describe w ≡ some i → (inRange i ≡ true) × (wordFor i ≡ w)
 described-is w i h p =
     let (e, q, s) = line-found w i p in

@@ -8,12 +8,12 @@ use borrow.Author.Tests.{eq-eqb, eqb-true}
 use Rattle.isa.specs.Row.{every}
 use Rattle.isa.proofs.Rows.{both}
 use Rattle.names.specs.declared.TileName.{TileName}
-use Rattle.names.specs.Names.{tileNamed, sameName, among, holds, held}
+use Rattle.names.specs.Names.{za, sameName, among, holds, held}
 
 pub same-name : (j k : TileName) → sameName j k ≡ true → j ≡ k
 same-name j k h =
     let (a, b) = both (eqb (j .bytes) (k .bytes)) (eqb (j .tile .0) (k .tile .0)) h in
-    ap₂ tileNamed (eqb-true _ _ a) (eqb-true _ _ b)
+    ap₂ za (eqb-true _ _ a) (eqb-true _ _ b)
 
 pub itself : (k : TileName) → sameName k k ≡ true
 itself k = rw (eq-eqb (k .bytes) (k .bytes) refl, eq-eqb (k .tile .0) (k .tile .0) refl)

@@ -16,7 +16,7 @@ use Rattle.isa.proofs.Rows.{both}
 use Rattle.storage.specs.Tile.{masked}
 use Rattle.names.specs.declared.TileName.{TileName}
 use Rattle.names.specs.Names.{names, sameName, among, isName, holds, held, lowest, rising, Shortest, everyBelow, namesOf}
-use Rattle.names.specs.Lists.{numberOf, namesIn, Table}
+use Rattle.names.specs.Lists.{listNumber, namesIn, Table}
 use Rattle.names.specs.Claims.{OneList}
 use Rattle.names.proofs.Tests.{below, everyEntry, entry}
 use Rattle.names.proofs.Members.{same-name, each}
@@ -126,7 +126,7 @@ one-list mask h =
 
 -- a table whose entries all pass is right
 abbrev pub entryPasses : ℕ → ℕ → Bool
-entryPasses mask list = eqb list (numberOf (namesIn list)) && passes mask (namesIn list)
+entryPasses mask list = eqb list (listNumber (namesIn list)) && passes mask (namesIn list)
 
 pub table-right : (lists : List ℕ) → length lists ≡ 256 → everyEntry entryPasses 0 lists ≡ true → Table lists
 table-right lists e p =
@@ -135,10 +135,10 @@ table-right lists e p =
       each =
           λ mask h.
           let list = getD lists mask 0 in
-          let (d, t) = both (eqb list (numberOf (namesIn list))) (passes mask (namesIn list)) (entry entryPasses lists mask p (omega arith)) in
+          let (d, t) = both (eqb list (listNumber (namesIn list))) (passes mask (namesIn list)) (entry entryPasses lists mask p (omega arith)) in
           let s = shortest mask (namesIn list) t in
           let o = one-list mask h .only (namesIn list) s in
-          record { is = eqb-true _ _ d ∙ ap numberOf o; names = o; shortest = s };
+          record { is = eqb-true _ _ d ∙ ap listNumber o; names = o; shortest = s };
     }
 
 -- no list has more than four names

@@ -10,17 +10,18 @@ use Rattle.isa.specs.Row.{every}
 use Rattle.storage.specs.Tile.{inTile, masked}
 use Rattle.names.specs.declared.TileName.{TileName}
 
--- ---- names: za; za0.h and za1.h; za0.s to za3.s; za0.d to za7.d. They stand here by their lowest 64-bit tile, the larger first
-abbrev pub tileNamed : ℕ → ℕ → TileName
-tileNamed bytes tile = record { bytes = bytes; tile = record { 0 = tile } }
+-- ---- names, by the bytes of an element and the tile's number
+abbrev pub za : ℕ → ℕ → TileName
+za bytes tile = record { bytes = bytes; tile = record { 0 = tile } }
 
+-- za; za0.h and za1.h; za0.s to za3.s; za0.d to za7.d: here by their lowest 64-bit tile, and the larger first
 abbrev pub names : List TileName
 names =
-    tileNamed 1 0 ∷ tileNamed 2 0 ∷ tileNamed 4 0 ∷ tileNamed 8 0
-    ∷ tileNamed 2 1 ∷ tileNamed 4 1 ∷ tileNamed 8 1
-    ∷ tileNamed 4 2 ∷ tileNamed 8 2
-    ∷ tileNamed 4 3 ∷ tileNamed 8 3
-    ∷ tileNamed 8 4 ∷ tileNamed 8 5 ∷ tileNamed 8 6 ∷ tileNamed 8 7
+    za 1 0 ∷ za 2 0 ∷ za 4 0 ∷ za 8 0
+    ∷ za 2 1 ∷ za 4 1 ∷ za 8 1
+    ∷ za 4 2 ∷ za 8 2
+    ∷ za 4 3 ∷ za 8 3
+    ∷ za 8 4 ∷ za 8 5 ∷ za 8 6 ∷ za 8 7
     ∷ []
 
 abbrev pub sameName : TileName → TileName → Bool
@@ -75,13 +76,13 @@ abbrev pub everyBelow : (ℕ → Bool) → ℕ → Bool
 everyBelow f zero = true
 everyBelow f (suc n) = f n && everyBelow f n
 
--- ZERO clears all that a name holds; which rows that are repeats after eight
+-- ZERO clears every row that a name holds; eight rows tell, as a name that holds row r holds row r + 8
 abbrev pub inside : ℕ → TileName → Bool
 inside mask k = everyBelow (λ (r : ℕ). not (holds k r) || masked mask r) 8
 
 -- the name that holds a name's rows and as many more
 abbrev pub wider : TileName → TileName
-wider k = tileNamed (k .bytes / 2) (k .tile .0 % (k .bytes / 2))
+wider k = za (k .bytes / 2) (k .tile .0 % (k .bytes / 2))
 
 abbrev pub largest : ℕ → TileName → Bool
 largest mask k = inside mask k && (eqb (k .bytes) 1 || not (inside mask (wider k)))

@@ -3,7 +3,7 @@ mod lists;
 
 ghost use mathlib.Core.Path.{_≡_};
 ghost use Rattle.names.specs.Lists.{nameOf};
-ghost use Rattle.names.specs.Names.{tileNamed};
+ghost use Rattle.names.specs.Names.{za};
 use isa::Tile;
 pub use lists::list_of;
 
@@ -13,7 +13,7 @@ pub struct TileName {
     pub tile: Tile,
 }
 
-// The name of a digit of a list.
+// The name of a digit of a list. A list has digits 1 to 15; 0 gives za too, and a number above 15 a tile that ZA lacks.
 pub fn name_of(digit: u16) -> TileName
     ensures { λ r. ⌜ r ≡ nameOf digit ⌝ }
 {
@@ -30,7 +30,7 @@ pub fn name_of(digit: u16) -> TileName
 }
 
 fn named(bytes: u32, tile: u16) -> TileName
-    ensures { λ r. ⌜ r ≡ tileNamed bytes tile ⌝ }
+    ensures { λ r. ⌜ r ≡ za bytes tile ⌝ }
 {
     TileName {
         bytes,

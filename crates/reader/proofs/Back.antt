@@ -23,7 +23,7 @@ use Rattle.text.specs.Ascii.{ascii}
 use Rattle.text.specs.Spelling.{Text, decimal, mnemonic, tileName, predicateName, vectorName, sourceName, further, separated, spelling}
 use Rattle.reader.specs.declared.Scan.{Scan}
 use Rattle.reader.specs.Claims.{oldLine}
-use Rattle.reader.specs.Guess.{fresh, stepped, scanned, tilesFrom, maskOf, byteAt, operationOf, sourceOf, outerOf, guessOf}
+use Rattle.reader.specs.Guess.{fresh, stepped, scanned, tilesFrom, zeroMask, byteAt, operationOf, sourceOf, outerOf, guessOf}
 
 scanned-append : (s : Scan) (a b : Text) → scanned s (a ++ b) ≡ scanned (scanned s a) b
 unfolding scanned
@@ -293,9 +293,9 @@ quarter-back op tile first second h =
     ∙ rw (source-back first, source-back second))
 
 -- ---- ZERO: every mask's line, computed
-mask-back : (m : ℕ) → m < 256 → maskOf (spelling (Zero m)) ≡ m
+mask-back : (m : ℕ) → m < 256 → zeroMask (spelling (Zero m)) ≡ m
 unfolding spelling namesOf tilesFrom
-mask-back m h = eqb-true _ m (below (λ (m : ℕ). eqb (maskOf (spelling (Zero m))) m) 256 m refl h)
+mask-back m h = eqb-true _ m (below (λ (m : ℕ). eqb (zeroMask (spelling (Zero m))) m) 256 m refl h)
 
 zero-back : (m : ℕ) → inRange (Zero m) ≡ true → guessOf (spelling (Zero m)) ≡ Zero m
 unfolding guessOf spelling
@@ -304,7 +304,7 @@ zero-back m h = ap Zero (mask-back m (ltb-true m 256 (every-all (ltb m 256 ∷ [
 -- the lines of document 01 lead to the same masks
 pub old-back : (m : ℕ) → m < 256 → guessOf (oldLine m) ≡ Zero m
 unfolding guessOf tilesFrom
-old-back m h = ap Zero (eqb-true _ m (below (λ (m : ℕ). eqb (maskOf (oldLine m)) m) 256 m refl h))
+old-back m h = ap Zero (eqb-true _ m (below (λ (m : ℕ). eqb (zeroMask (oldLine m)) m) 256 m refl h))
 
 -- ---- every instruction in range
 pub guess-back : (i : Instruction) → inRange i ≡ true → guessOf (spelling i) ≡ i

@@ -16,7 +16,7 @@ use Rattle.names.proofs.Tests.{below}
 use Rattle.text.specs.Spelling.{Text}
 use Rattle.reader.specs.declared.Scan.{Scan}
 use Rattle.reader.specs.Answers.{sameText}
-use Rattle.reader.specs.Guess.{fresh, numberAfter, stepped, scanned, share, tilesAfter, tilesFrom, maskOf, byteAt, operationOf, outerOf, guessOf}
+use Rattle.reader.specs.Guess.{fresh, numberAfter, stepped, scanned, share, tilesAfter, tilesFrom, zeroMask, byteAt, operationOf, outerOf, guessOf}
 
 -- ---- the powers of two that a byte has
 pub power-small : (n : ℕ) → 2 ^ (n % 8) ≤ 128
@@ -56,7 +56,7 @@ tiles-over m n t i h = ap (tilesFrom m n) (drop-of-length-le t h)
 
 -- ---- the guess, from its parts
 module _ (t : Text) (b : ℕ) (first : b ≡ byteAt t 0) where
-  pub zero-guess : (m : ℕ) → b ≡ 122 → m ≡ maskOf t → Zero m ≡ guessOf t
+  pub zero-guess : (m : ℕ) → b ≡ 122 → m ≡ zeroMask t → Zero m ≡ guessOf t
   unfolding guessOf
   zero-guess m is mask = rw (← first, eq-eqb b 122 is, mask)
 

@@ -90,8 +90,8 @@ tilesFrom m n [] = m
 tilesFrom m n (b ∷ t) = tilesFrom (tilesAfter m n b) (numberAfter n b) t
 
 -- one line has a name without a number: `zero { za }`, which alone has 11 bytes
-abbrev pub maskOf : Text → ℕ
-maskOf t = cond (eqb (length t) 11) 255 (tilesFrom 0 0 t)
+abbrev pub zeroMask : Text → ℕ
+zeroMask t = cond (eqb (length t) 11) 255 (tilesFrom 0 0 t)
 
 -- ---- the letters of an outer product's name, by their places
 abbrev pub byteAt : Text → ℕ → ℕ
@@ -138,7 +138,7 @@ outerGuess t s = outerOf (operationOf t (s .wide) (s .half && not (s .wide)) (s 
 
 -- a z begins ZERO alone
 unfoldable pub guessOf : Text → Instruction
-guessOf t = cond (eqb (byteAt t 0) 122) (Zero (maskOf t)) (outerGuess t (scanned fresh t))
+guessOf t = cond (eqb (byteAt t 0) 122) (Zero (zeroMask t)) (outerGuess t (scanned fresh t))
 
 -- ---- what is answered of a word, by whether it has the line, and whether flags allow it
 abbrev pub verdict : ℕ → Bool → Bool → Reading

@@ -1,7 +1,7 @@
 // A guess of the instruction that a line spells: right for every line that spells one, and of no use for any other.
 ghost use mathlib.Core.Path.{_≡_};
 ghost use Prim.Native.Nat.{_-_};
-ghost use Rattle.reader.specs.Guess.{fresh, numberAfter, shifted, marked, stepped, scanned, byteAt, oneSign, secondAt, lastAt, operationOf, sourceOf, outerOf, share, tilesAfter, maskOf, guessOf};
+ghost use Rattle.reader.specs.Guess.{fresh, numberAfter, shifted, marked, stepped, scanned, byteAt, oneSign, secondAt, lastAt, operationOf, sourceOf, outerOf, share, tilesAfter, zeroMask, guessOf};
 use crate::Scan;
 use isa::Instruction;
 use isa::Operation;
@@ -198,7 +198,7 @@ fn number_after(n: u32, b: u8) -> u32
 
 // The mask of a ZERO's names: each adds its 64-bit tiles.
 fn mask_of(line: &[u8]) -> u8
-    ensures { λ r. ⌜ r ≡ maskOf (now (line .entry)) ⌝ }
+    ensures { λ r. ⌜ r ≡ zeroMask (now (line .entry)) ⌝ }
 {
     if line.len() == ALL_LENGTH {
         return 255;

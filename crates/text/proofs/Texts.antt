@@ -10,7 +10,7 @@ use lib.Dec.{eqb, ltb}
 use borrow.Author.Tests.{ltb-true, eq-eqb, ne-eqb}
 use lib.ListN.{length, length-append}
 use Rattle.names.specs.declared.TileName.{TileName}
-use Rattle.names.specs.Lists.{nameOf, digit, namesFrom}
+use Rattle.names.specs.Lists.{nameOf, digitAt, namesFrom}
 use Rattle.names.proofs.Tests.{below}
 use Rattle.text.specs.Ascii.{ascii}
 use Rattle.text.specs.Spelling.{Text, decimal, suffix, nameText, separated, further, braced}
@@ -53,18 +53,18 @@ shown-none (t ∷ ts) at e = ne-eqb at 6 (λ h. omega (arith, e, length-append (
 names-snoc : (n i list : ℕ) → namesFrom (suc n) i list ≡ namesFrom n i list ++ namesFrom 1 (i + n) list
 names-snoc zero i list = ap (λ (j : ℕ). namesFrom 1 j list) (sym (add-zero i))
 names-snoc (suc n) i list =
-    go (eqb (digit list i) 0) (names-snoc n (i + 1) list ∙ ap (λ (j : ℕ). namesFrom n (i + 1) list ++ namesFrom 1 j list) (omega arith))
+    go (eqb (digitAt list i) 0) (names-snoc n (i + 1) list ∙ ap (λ (j : ℕ). namesFrom n (i + 1) list ++ namesFrom 1 j list) (omega arith))
   where
     go : (b : Bool) → namesFrom (suc n) (i + 1) list ≡ namesFrom n (i + 1) list ++ namesFrom 1 (i + suc n) list
-        → cond b (namesFrom (suc n) (i + 1) list) (nameOf (digit list i) ∷ namesFrom (suc n) (i + 1) list)
-        ≡ cond b (namesFrom n (i + 1) list) (nameOf (digit list i) ∷ namesFrom n (i + 1) list) ++ namesFrom 1 (i + suc n) list
+        → cond b (namesFrom (suc n) (i + 1) list) (nameOf (digitAt list i) ∷ namesFrom (suc n) (i + 1) list)
+        ≡ cond b (namesFrom n (i + 1) list) (nameOf (digitAt list i) ∷ namesFrom n (i + 1) list) ++ namesFrom 1 (i + suc n) list
     go true e = e
-    go false e = ap (λ (l : List TileName). nameOf (digit list i) ∷ l) e
+    go false e = ap (λ (l : List TileName). nameOf (digitAt list i) ∷ l) e
 
 -- one digit more
 pub shown-more : (i list at : ℕ) → at ≡ 6 + length (shown (map nameText (namesFrom i 0 list)))
-    → shown (map nameText (namesFrom i 0 list)) ++ listed at (digit list i) ≡ shown (map nameText (namesFrom (i + 1) 0 list))
-shown-more i list at e = go (nameOf (digit list i)) (eqb (digit list i) 0) ∙ ap (λ (l : List TileName). shown (map nameText l)) next
+    → shown (map nameText (namesFrom i 0 list)) ++ listed at (digitAt list i) ≡ shown (map nameText (namesFrom (i + 1) 0 list))
+shown-more i list at e = go (nameOf (digitAt list i)) (eqb (digitAt list i) 0) ∙ ap (λ (l : List TileName). shown (map nameText l)) next
   where
     ks : List TileName
     ks = namesFrom i 0 list

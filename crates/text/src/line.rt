@@ -115,7 +115,7 @@ fn put_listed(line: &mut [u8], at: usize, digit: u16) -> usize
     put_tile(line, at, b", za", name)
 }
 
-// What a tile's name has behind za, which stands in the lead; all of ZA has nothing there.
+// A lead that ends with za, and what the name has behind it: all of ZA has nothing there.
 fn put_tile(line: &mut [u8], at: usize, lead: &[u8], name: TileName) -> usize
     requires { ⌜ (at + length (now lead) + 4 ≤ length (now line)) × (name .tile .0 < 100) ⌝ }
     ensures { λ r. ⌜ Put (length (now (lead .entry)) + 4) (now (line .entry)) at (now (line .exit)) r (behind (now (lead .entry)) name) ⌝ }
