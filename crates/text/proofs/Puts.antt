@@ -22,9 +22,6 @@ module _ {before line : List ℕ} {at next : ℕ} where
   pub put-as : {m n : ℕ} {s t : Text} → Put m before at line next s → s ≡ t → m ≤ n → Put n before at line next t
   put-as p e h = record { short = rw (← e) (omega arith); ends = rw (← e) (p .ends); text = rw (← e) (p .text) }
 
-  pub put-within : {m n : ℕ} {t : Text} → Put m before at line next t → length t ≤ n → Put n before at line next t
-  put-within p h = record { short = h; ends = p .ends; text = p .text }
-
 -- nothing is put
 pub put-nothing : {n : ℕ} (line : List ℕ) (at : ℕ) → Put n line at line at []
 put-nothing line at = record { short = omega arith; ends = sym (add-zero at); text = sym (append-nil (take at line)) }
