@@ -7,6 +7,9 @@ enum { VB = 16, MOST_WORDS = 65536 };
 
 static const uint32_t SUMOPA = 0xA0A00000, UMOPA_2WAY = 0xA1800008, ZERO = 0xC00800FF, UNLISTED = 0x81000010;
 
+/* usmop4s za7.d, z0.h, z16.h, which needs two features, 2 and 4. */
+static const uint32_t USMOP4S = 0xA1C0001F;
+
 static uint8_t z[32 * VB], p[2 * VB], za[VB * VB];
 
 static uint32_t list_too_long[MOST_WORDS + 1];
@@ -20,8 +23,8 @@ static void expect(const char *what, uint64_t answer, uint64_t right) {
     }
 }
 
-static uint64_t packed(uint64_t value, uint64_t refusal) {
-    return value * 256 + refusal;
+static uint64_t packed(uint64_t value, uint64_t missing, uint64_t refusal) {
+    return value * 65536 + missing * 256 + refusal;
 }
 
 static void words(void) {
@@ -29,17 +32,17 @@ static void words(void) {
     const char *text = "usmop4s za2.s, { z10.b-z11.b }, { z30.b-z31.b }";
     const char *two_way = "umopa za0.s, p0/m, p0/m, z0.h, z0.h";
     const char *tiles = "zero { za0.h, za1.d }";
-    expect("decode", birdaghol_decode(6, 0xA1C0001F), 0);
-    expect("decode, a feature off", birdaghol_decode(4, 0xA1C0001F), 8);
-    expect("decode, 2-way", birdaghol_decode(8, UMOPA_2WAY), 0);
-    expect("decode, 2-way, SME2 off", birdaghol_decode(7, UMOPA_2WAY), 8);
-    expect("decode, 2-way, mixed signs", birdaghol_decode(15, 0xA0A00008), 7);
-    expect("print", birdaghol_print(7, 0x811E8352, room, sizeof room), packed(strlen(text), 0));
+    expect("decode", birdaghol_decode(6, USMOP4S), packed(0, 0, 0));
+    expect("decode, a feature off", birdaghol_decode(4, USMOP4S), packed(0, 2, 8));
+    expect("decode, 2-way", birdaghol_decode(8, UMOPA_2WAY), packed(0, 0, 0));
+    expect("decode, 2-way, SME2 off", birdaghol_decode(7, UMOPA_2WAY), packed(0, 8, 8));
+    expect("decode, 2-way, mixed signs", birdaghol_decode(15, 0xA0A00008), packed(0, 0, 7));
+    expect("print", birdaghol_print(7, 0x811E8352, room, sizeof room), packed(strlen(text), 0, 0));
     expect("print, its text", (uint64_t)memcmp(room, text, strlen(text)), 0);
-    expect("print, no room", birdaghol_print(7, 0x811E8352, room, sizeof room - 1), packed(0, 12));
-    expect("print, 2-way", birdaghol_print(15, UMOPA_2WAY, room, sizeof room), packed(strlen(two_way), 0));
+    expect("print, no room", birdaghol_print(7, 0x811E8352, room, sizeof room - 1), packed(0, 0, 12));
+    expect("print, 2-way", birdaghol_print(15, UMOPA_2WAY, room, sizeof room), packed(strlen(two_way), 0, 0));
     expect("print, its 2-way text", (uint64_t)memcmp(room, two_way, strlen(two_way)), 0);
-    expect("print, ZERO", birdaghol_print(1, 0xC0080057, room, sizeof room), packed(strlen(tiles), 0));
+    expect("print, ZERO", birdaghol_print(1, 0xC0080057, room, sizeof room), packed(strlen(tiles), 0, 0));
     expect("print, its tiles", (uint64_t)memcmp(room, tiles, strlen(tiles)), 0);
 }
 
@@ -53,54 +56,55 @@ static void lines(void) {
     const char *pairs = "usmop4s za2.s, { z10.b-z11.b }, { z30.b-z31.b }";
     const char *usmop4s = "usmop4s za7.d, z0.h, z16.h";
     const char *two_way = "umopa za0.s, p0/m, p0/m, z0.h, z0.h";
-    expect("read, predicated", read_line(1, sumops), packed(0xA0B1A873, 0));
-    expect("read, predicated, 64-bit", read_line(2, "umopa za7.d, p1/m, p2/m, z4.h, z31.h"), packed(0xA1FF4487, 0));
-    expect("read, predicated, 2-way", read_line(8, two_way), packed(UMOPA_2WAY, 0));
-    expect("read, quarter-tile", read_line(4, pairs), packed(0x811E8352, 0));
-    expect("read, quarter-tile, 64-bit", read_line(6, usmop4s), packed(0xA1C0001F, 0));
-    expect("read, quarter-tile, 2-way", read_line(4, "smop4s za2.s, z12.h, { z18.h-z19.h }"), packed(0x8012819A, 0));
-    expect("read, ZERO", read_line(1, "zero { za0.h, za1.d }"), packed(0xC0080057, 0));
-    expect("read, ZERO of all", read_line(1, "zero { za }"), packed(ZERO, 0));
-    expect("read, ZERO of nothing", read_line(1, "zero {}"), packed(0xC0080000, 0));
-    expect("read, a feature off", read_line(4, usmop4s), packed(0, 8));
-    expect("read, SME2 off", read_line(7, two_way), packed(0, 8));
-    expect("read, flags", read_line(16, "no text"), packed(0, 1));
-    expect("read, a feature off, no text", read_line(0, "sumops za3.s, p2/m, p5/m, z3.b, z17"), packed(0, 13));
-    expect("read, nothing", read_line(15, ""), packed(0, 13));
-    expect("read, a leading zero", read_line(15, "sumops za3.s, p2/m, p5/m, z03.b, z17.b"), packed(0, 13));
-    expect("read, capitals", read_line(15, "SUMOPS ZA3.S, P2/M, P5/M, Z3.B, Z17.B"), packed(0, 13));
-    expect("read, a space behind", read_line(15, "zero {} "), packed(0, 13));
-    expect("read, tiles falling", read_line(15, "zero { za1.d, za0.h }"), packed(0, 13));
-    expect("read, more tiles than need be", read_line(15, "zero { za0.d, za4.d }"), packed(0, 13));
-    expect("read, its 0 too", birdaghol_read(15, (const uint8_t *)sumops, strlen(sumops) + 1), packed(0, 13));
-    expect("read, its start", birdaghol_read(15, (const uint8_t *)sumops, strlen(sumops) - 1), packed(0, 13));
+    expect("read, predicated", read_line(1, sumops), packed(0xA0B1A873, 0, 0));
+    expect("read, predicated, 64-bit", read_line(2, "umopa za7.d, p1/m, p2/m, z4.h, z31.h"), packed(0xA1FF4487, 0, 0));
+    expect("read, predicated, 2-way", read_line(8, two_way), packed(UMOPA_2WAY, 0, 0));
+    expect("read, quarter-tile", read_line(4, pairs), packed(0x811E8352, 0, 0));
+    expect("read, quarter-tile, 64-bit", read_line(6, usmop4s), packed(USMOP4S, 0, 0));
+    expect("read, quarter-tile, 2-way", read_line(4, "smop4s za2.s, z12.h, { z18.h-z19.h }"), packed(0x8012819A, 0, 0));
+    expect("read, ZERO", read_line(1, "zero { za0.h, za1.d }"), packed(0xC0080057, 0, 0));
+    expect("read, ZERO of all", read_line(1, "zero { za }"), packed(ZERO, 0, 0));
+    expect("read, ZERO of nothing", read_line(1, "zero {}"), packed(0xC0080000, 0, 0));
+    expect("read, a feature off", read_line(4, usmop4s), packed(0, 2, 8));
+    expect("read, SME2 off", read_line(7, two_way), packed(0, 8, 8));
+    expect("read, flags", read_line(16, "no text"), packed(0, 0, 1));
+    expect("read, a feature off, no text", read_line(0, "sumops za3.s, p2/m, p5/m, z3.b, z17"), packed(0, 0, 13));
+    expect("read, nothing", read_line(15, ""), packed(0, 0, 13));
+    expect("read, a leading zero", read_line(15, "sumops za3.s, p2/m, p5/m, z03.b, z17.b"), packed(0, 0, 13));
+    expect("read, capitals", read_line(15, "SUMOPS ZA3.S, P2/M, P5/M, Z3.B, Z17.B"), packed(0, 0, 13));
+    expect("read, a space behind", read_line(15, "zero {} "), packed(0, 0, 13));
+    expect("read, tiles falling", read_line(15, "zero { za1.d, za0.h }"), packed(0, 0, 13));
+    expect("read, more tiles than need be", read_line(15, "zero { za0.d, za4.d }"), packed(0, 0, 13));
+    expect("read, its 0 too", birdaghol_read(15, (const uint8_t *)sumops, strlen(sumops) + 1), packed(0, 0, 13));
+    expect("read, its start", birdaghol_read(15, (const uint8_t *)sumops, strlen(sumops) - 1), packed(0, 0, 13));
 }
 
 static void encodings(void) {
-    expect("encode_predicated", birdaghol_encode_predicated(4, 4, false, true, true, 3, 2, 5, 3, 17), packed(0xA0B1A873, 0));
-    expect("encode_predicated, 2-way", birdaghol_encode_predicated(4, 2, true, true, true, 3, 2, 5, 3, 17), packed(0xA191A87B, 0));
-    expect("encode_predicated, a size", birdaghol_encode_predicated(5, 4, false, true, true, 3, 2, 5, 3, 17), packed(0, 11));
-    expect("encode_predicated, 3 products", birdaghol_encode_predicated(4, 3, true, true, true, 3, 2, 5, 3, 17), packed(0, 11));
-    expect("encode_predicated, 2-way, mixed signs", birdaghol_encode_predicated(4, 2, false, true, true, 3, 2, 5, 3, 17), packed(0, 11));
-    expect("encode_predicated, 2-way, 64-bit", birdaghol_encode_predicated(8, 2, true, true, true, 3, 2, 5, 3, 17), packed(0, 11));
-    expect("encode_quarter", birdaghol_encode_quarter(8, 4, false, true, true, 4, 12, false, 18, true), packed(0xA0F2019C, 0));
-    expect("encode_quarter, a pair", birdaghol_encode_quarter(4, 4, true, false, true, 2, 10, true, 30, true), packed(0x811E8352, 0));
-    expect("encode_quarter, 2-way", birdaghol_encode_quarter(4, 2, false, false, true, 2, 12, false, 18, true), packed(0x8012819A, 0));
-    expect("encode_quarter, 0 products", birdaghol_encode_quarter(4, 0, false, false, true, 2, 12, false, 18, true), packed(0, 11));
-    expect("encode_quarter, 2-way, mixed signs", birdaghol_encode_quarter(4, 2, true, false, true, 2, 12, false, 18, true), packed(0, 11));
-    expect("encode_quarter, 2-way, 64-bit", birdaghol_encode_quarter(8, 2, false, false, true, 2, 12, false, 18, true), packed(0, 11));
-    expect("encode_zero", birdaghol_encode_zero(0x11), packed(0xC0080011, 0));
+    const uint64_t refused = packed(0, 0, 11);
+    expect("encode_predicated", birdaghol_encode_predicated(4, 4, false, true, true, 3, 2, 5, 3, 17), packed(0xA0B1A873, 0, 0));
+    expect("encode_predicated, 2-way", birdaghol_encode_predicated(4, 2, true, true, true, 3, 2, 5, 3, 17), packed(0xA191A87B, 0, 0));
+    expect("encode_predicated, a size", birdaghol_encode_predicated(5, 4, false, true, true, 3, 2, 5, 3, 17), refused);
+    expect("encode_predicated, 3 products", birdaghol_encode_predicated(4, 3, true, true, true, 3, 2, 5, 3, 17), refused);
+    expect("encode_predicated, 2-way, mixed signs", birdaghol_encode_predicated(4, 2, false, true, true, 3, 2, 5, 3, 17), refused);
+    expect("encode_predicated, 2-way, 64-bit", birdaghol_encode_predicated(8, 2, true, true, true, 3, 2, 5, 3, 17), refused);
+    expect("encode_quarter", birdaghol_encode_quarter(8, 4, false, true, true, 4, 12, false, 18, true), packed(0xA0F2019C, 0, 0));
+    expect("encode_quarter, a pair", birdaghol_encode_quarter(4, 4, true, false, true, 2, 10, true, 30, true), packed(0x811E8352, 0, 0));
+    expect("encode_quarter, 2-way", birdaghol_encode_quarter(4, 2, false, false, true, 2, 12, false, 18, true), packed(0x8012819A, 0, 0));
+    expect("encode_quarter, 0 products", birdaghol_encode_quarter(4, 0, false, false, true, 2, 12, false, 18, true), refused);
+    expect("encode_quarter, 2-way, mixed signs", birdaghol_encode_quarter(4, 2, true, false, true, 2, 12, false, 18, true), refused);
+    expect("encode_quarter, 2-way, 64-bit", birdaghol_encode_quarter(8, 2, false, false, true, 2, 12, false, 18, true), refused);
+    expect("encode_zero", birdaghol_encode_zero(0x11), packed(0xC0080011, 0, 0));
 }
 
 /* Describes a word with room for so many numbers, and compares the answer and every number, those past the room too. */
-static void describe(const char *what, uint32_t flags, uint32_t word, size_t room, uint32_t refusal, const uint32_t *right) {
+static void describe(const char *what, uint32_t flags, uint32_t word, size_t room, uint64_t answer, const uint32_t *right) {
     uint32_t fields[BIRDAGHOL_FIELDS + 2], expected[BIRDAGHOL_FIELDS + 2];
     memset(fields, 0xA5, sizeof fields);
     memset(expected, 0xA5, sizeof expected);
-    if (refusal == 0) {
+    if (answer == 0) {
         memcpy(expected, right, BIRDAGHOL_FIELDS * sizeof *right);
     }
-    expect(what, birdaghol_describe(flags, word, fields, room), refusal);
+    expect(what, birdaghol_describe(flags, word, fields, room), answer);
     expect(what, (uint64_t)memcmp(fields, expected, sizeof fields), 0);
 }
 
@@ -116,14 +120,14 @@ static void descriptions(void) {
     describe("describe, quarter-tile, 2-way", 4, 0x800E834A, BIRDAGHOL_FIELDS, 0, smop4a_2way);
     describe("describe, ZERO", 15, 0xC0080011, BIRDAGHOL_FIELDS, 0, zero);
     describe("describe, more room", 15, 0xA0B1A873, BIRDAGHOL_FIELDS + 2, 0, sumops);
-    describe("describe, flags", 16, UNLISTED, 0, 1, NULL);
-    describe("describe, unlisted", 15, UNLISTED, 0, 7, NULL);
-    describe("describe, a feature off", 7, UMOPA_2WAY, 0, 8, NULL);
-    describe("describe, no room", 15, UMOPA_2WAY, BIRDAGHOL_FIELDS - 1, 12, NULL);
+    describe("describe, flags", 16, UNLISTED, 0, packed(0, 0, 1), NULL);
+    describe("describe, unlisted", 15, UNLISTED, 0, packed(0, 0, 7), NULL);
+    describe("describe, a feature off", 7, UMOPA_2WAY, 0, packed(0, 8, 8), NULL);
+    describe("describe, no room", 8, UMOPA_2WAY, BIRDAGHOL_FIELDS - 1, packed(0, 0, 12), NULL);
 }
 
 /* A word on vectors of 16 bytes, all of them FF. */
-static uint32_t execute(uint32_t flags, bool streaming, bool za_on, size_t vb, uint32_t word) {
+static uint64_t execute(uint32_t flags, bool streaming, bool za_on, size_t vb, uint32_t word) {
     return birdaghol_execute(flags, streaming, za_on, vb, z, sizeof z, p, sizeof p, za, sizeof za, word);
 }
 
@@ -138,17 +142,115 @@ static void bench(void) {
     const uint8_t two_way_sum[] = {0x02, 0x00, 0xFC, 0xFF};
     memset(z, 0xFF, sizeof z);
     memset(p, 0xFF, sizeof p);
-    expect("execute", execute(7, true, true, VB, SUMOPA), 0);
+    expect("execute", execute(7, true, true, VB, SUMOPA), packed(0, 0, 0));
     expect("execute, its sum", (uint64_t)memcmp(za, sum, sizeof sum), 0);
-    expect("execute, flags", execute(16, true, true, VB, ZERO), 1);
-    expect("execute, a length", execute(7, true, true, 15, ZERO), 2);
-    expect("execute, streaming off", execute(7, false, true, VB, SUMOPA), 9);
-    expect("execute, ZA off", execute(7, true, false, VB, SUMOPA), 10);
-    expect("run, Z too short", birdaghol_run(7, true, true, VB, z, 511, p, sizeof p, za, sizeof za, list, 4), packed(0, 3));
-    expect("run", run(7, list, 4), packed(2, 7));
+    expect("execute, flags", execute(16, true, true, VB, ZERO), packed(0, 0, 1));
+    expect("execute, a length", execute(7, true, true, 15, ZERO), packed(0, 0, 2));
+    expect("execute, streaming off", execute(7, false, true, VB, SUMOPA), packed(0, 0, 9));
+    expect("execute, ZA off", execute(7, true, false, VB, SUMOPA), packed(0, 0, 10));
+    expect("run, Z too short", birdaghol_run(7, true, true, VB, z, 511, p, sizeof p, za, sizeof za, list, 4), packed(0, 0, 3));
+    expect("run", run(7, list, 4), packed(2, 0, 7));
     expect("run, its sum", (uint64_t)memcmp(za, sum, sizeof sum), 0);
-    expect("run, 2-way", run(15, two_way, 2), packed(2, 0));
+    expect("run, 2-way", run(15, two_way, 2), packed(2, 0, 0));
     expect("run, its 2-way sum", (uint64_t)memcmp(za, two_way_sum, sizeof two_way_sum), 0);
+}
+
+/* A word with features off: every call hands back the sum of them, whatever the modes and the room are, and writes nothing.
+   With these on as well, the word is decoded. */
+static void lacking(uint32_t flags, uint32_t word, const char *line, uint32_t missing) {
+    struct {
+        uint32_t fields[BIRDAGHOL_FIELDS];
+        uint8_t room[47];
+    } lent, before;
+    uint8_t za_before[sizeof za];
+    memset(&lent, 0xA5, sizeof lent);
+    memset(&before, 0xA5, sizeof before);
+    memcpy(za_before, za, sizeof za);
+    const struct {
+        const char *call;
+        uint64_t answer;
+    } calls[] = {
+        {"decode", birdaghol_decode(flags, word)},
+        {"describe", birdaghol_describe(flags, word, lent.fields, BIRDAGHOL_FIELDS)},
+        {"describe, no room", birdaghol_describe(flags, word, lent.fields, 0)},
+        {"print", birdaghol_print(flags, word, lent.room, sizeof lent.room)},
+        {"print, no room", birdaghol_print(flags, word, lent.room, 0)},
+        {"read", read_line(flags, line)},
+        {"execute", execute(flags, true, true, VB, word)},
+        {"execute, both modes off", execute(flags, false, false, VB, word)},
+        {"run", run(flags, &word, 1)},
+    };
+    for (size_t i = 0; i < sizeof calls / sizeof *calls; i++) {
+        char what[128];
+        snprintf(what, sizeof what, "%s, `%s` with flags %u", calls[i].call, line, (unsigned)flags);
+        expect(what, calls[i].answer, packed(0, missing, 8));
+    }
+    expect(line, birdaghol_decode(flags + missing, word), packed(0, 0, 0));
+    expect("describe and print, their rooms", (uint64_t)memcmp(&lent, &before, sizeof lent), 0);
+    expect("execute and run, their ZA", (uint64_t)memcmp(za, za_before, sizeof za), 0);
+}
+
+/* With no feature on, then with every one that the word does not need; where it needs two, with either of them too. */
+static void features(void) {
+    const char *usmop4s = "usmop4s za7.d, z0.h, z16.h", *usmop4s_32 = "usmop4s za2.s, { z10.b-z11.b }, { z30.b-z31.b }";
+    const char *sumopa = "sumopa za0.s, p0/m, p0/m, z0.b, z0.b", *umopa_64 = "umopa za7.d, p1/m, p2/m, z4.h, z31.h";
+    const char *umopa_2way = "umopa za0.s, p0/m, p0/m, z0.h, z0.h", *smop4s_2way = "smop4s za2.s, z12.h, { z18.h-z19.h }";
+    lacking(0, USMOP4S, usmop4s, 2 + 4);
+    lacking(1 + 8, USMOP4S, usmop4s, 2 + 4);
+    lacking(4, USMOP4S, usmop4s, 2);
+    lacking(1 + 4 + 8, USMOP4S, usmop4s, 2);
+    lacking(2, USMOP4S, usmop4s, 4);
+    lacking(1 + 2 + 8, USMOP4S, usmop4s, 4);
+    lacking(0, SUMOPA, sumopa, 1);
+    lacking(2 + 4 + 8, SUMOPA, sumopa, 1);
+    lacking(0, 0xA1FF4487, umopa_64, 2);
+    lacking(1 + 4 + 8, 0xA1FF4487, umopa_64, 2);
+    lacking(0, UMOPA_2WAY, umopa_2way, 8);
+    lacking(1 + 2 + 4, UMOPA_2WAY, umopa_2way, 8);
+    lacking(0, 0x811E8352, usmop4s_32, 4);
+    lacking(1 + 2 + 8, 0x811E8352, usmop4s_32, 4);
+    lacking(0, 0x8012819A, smop4s_2way, 4);
+    lacking(1 + 2 + 8, 0x8012819A, smop4s_2way, 4);
+    lacking(0, ZERO, "zero { za }", 1);
+    lacking(2 + 4 + 8, ZERO, "zero { za }", 1);
+}
+
+/* The other refusals have no sum beside them, though features are off: all of them, or all that the word does not need. */
+static void other_refusals(void) {
+    const uint32_t list[] = {ZERO, UNLISTED};
+    uint8_t room[46];
+    expect("decode, flags, features off", birdaghol_decode(16, USMOP4S), packed(0, 0, 1));
+    expect("print, flags, features off", birdaghol_print(16, USMOP4S, room, 0), packed(0, 0, 1));
+    expect("read, flags, features off", read_line(16, "usmop4s za7.d, z0.h, z16.h"), packed(0, 0, 1));
+    expect("execute, flags, features off", execute(16, true, true, VB, USMOP4S), packed(0, 0, 1));
+    expect("run, flags, features off", run(16, &USMOP4S, 1), packed(0, 0, 1));
+    expect("execute, a length, features off", execute(0, true, true, 15, USMOP4S), packed(0, 0, 2));
+    expect("decode, unlisted, features off", birdaghol_decode(0, UNLISTED), packed(0, 0, 7));
+    expect("print, unlisted, features off", birdaghol_print(0, UNLISTED, room, 0), packed(0, 0, 7));
+    expect("execute, unlisted, features off", execute(0, false, false, VB, UNLISTED), packed(0, 0, 7));
+    expect("run, unlisted, features off", run(1, list, 2), packed(1, 0, 7));
+    expect("execute, streaming off, others off", execute(1, false, false, VB, SUMOPA), packed(0, 0, 9));
+    expect("execute, ZA off, others off", execute(1, true, false, VB, SUMOPA), packed(0, 0, 10));
+    expect("execute, ZERO, ZA off, others off", execute(1, false, false, VB, ZERO), packed(0, 0, 10));
+    expect("print, no room, others off", birdaghol_print(4, 0x811E8352, room, sizeof room), packed(0, 0, 12));
+    expect("read, no text, features off", read_line(0, "usmop4s za8.d, z0.h, z16.h"), packed(0, 0, 13));
+}
+
+/* Lists that stop at a word with features off: the count, the sum and the refusal in one answer. */
+static void stopped_lists(void) {
+    const uint32_t list[] = {ZERO, SUMOPA, USMOP4S, UMOPA_2WAY};
+    const uint8_t sum[] = {0x04, 0xFC, 0xFF, 0xFF};
+    const uint64_t answer = run(1, list, 4);
+    expect("run, two features off", answer, packed(2, 2 + 4, 8));
+    expect("run, its sum", (uint64_t)memcmp(za, sum, sizeof sum), 0);
+    expect("BIRDAGHOL_VALUE", BIRDAGHOL_VALUE(answer), 2);
+    expect("BIRDAGHOL_MISSING", BIRDAGHOL_MISSING(answer), 2 + 4);
+    expect("BIRDAGHOL_REFUSAL", BIRDAGHOL_REFUSAL(answer), 8);
+    expect("run, I16I64 off", run(1 + 4, list, 4), packed(2, 2, 8));
+    expect("run, MOP4 off", run(1 + 2, list, 4), packed(2, 4, 8));
+    expect("run, SME2 off", run(1 + 2 + 4, list, 4), packed(3, 8, 8));
+    expect("run, SME off", run(2 + 4 + 8, list, 4), packed(0, 1, 8));
+    expect("run, the second word", run(1 + 2 + 4, (const uint32_t[]){ZERO, UMOPA_2WAY}, 2), packed(1, 8, 8));
 }
 
 /* The longest list: ZERO, then SUMOPA. With one word more, nothing of it is executed, not even ZERO. */
@@ -160,10 +262,11 @@ static void longest_lists(void) {
     for (size_t i = 1; i <= MOST_WORDS; i++) {
         list_too_long[i] = SUMOPA;
     }
-    expect("run, 65,536 words", run(7, list_too_long, MOST_WORDS), packed(MOST_WORDS, 0));
+    expect("run, 65,536 words", run(7, list_too_long, MOST_WORDS), packed(MOST_WORDS, 0, 0));
     expect("run, their sum", (uint64_t)memcmp(za, sum, sizeof sum), 0);
     memcpy(za, before, sizeof za);
-    expect("run, 65,537 words", run(7, list_too_long, MOST_WORDS + 1), packed(0, 6));
+    expect("run, 65,537 words", run(7, list_too_long, MOST_WORDS + 1), packed(0, 0, 6));
+    expect("run, 65,537 words, features off", run(0, list_too_long, MOST_WORDS + 1), packed(0, 0, 6));
     expect("run, its ZA", (uint64_t)memcmp(za, before, sizeof za), 0);
 }
 
@@ -173,6 +276,9 @@ int main(void) {
     encodings();
     descriptions();
     bench();
+    features();
+    other_refusals();
+    stopped_lists();
     longest_lists();
     puts(wrong ? "calls from C: wrong" : "calls from C: as they should be");
     return wrong;

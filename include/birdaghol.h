@@ -9,8 +9,15 @@
    or 256; 3, 4, 5 z, p, za of another length; 6 a list of over 65,536 words; 7 a word that is not listed; 8 a word that
    needs a feature that is off; 9 an outer product with streaming mode off; 10 ZA off; 11 a field out of range; 12 a
    room shorter than the text, or fewer fields than BIRDAGHOL_FIELDS; 13 a line that is no listed word's text.
-   An answer of 64 bits is value * 256 + refusal: BIRDAGHOL_VALUE and BIRDAGHOL_REFUSAL take it apart. The value is 0
-   beside a refusal, but for birdaghol_run.
+
+   Every function answers value * 65536 + missing * 256 + refusal, and BIRDAGHOL_VALUE, BIRDAGHOL_MISSING and
+   BIRDAGHOL_REFUSAL take it apart:
+   - value: a length from birdaghol_print, a word from birdaghol_read and the encode functions, and how many words were
+     executed from birdaghol_run. 0 from birdaghol_decode, birdaghol_describe and birdaghol_execute; 0 beside a refusal,
+     but for birdaghol_run;
+   - missing: beside refusal 8, the sum of the flags that the word needs and that are off; otherwise 0. For A1C0001F,
+     which needs 2 and 4, birdaghol_decode answers 2 * 256 + 8 with flags 4, and 6 * 256 + 8 with flags 0;
+   - refusal: one of the numbers above, or 0 for none.
 
    What the proofs take as given, and every caller owes: a pointer is not NULL, whatever its length, and good for that
    many elements; a buffer that is written overlaps no other; nothing else writes any of them during the call. */
@@ -25,13 +32,15 @@
 extern "C" {
 #endif
 
-#define BIRDAGHOL_VALUE(answer) ((answer) / 256)
-#define BIRDAGHOL_REFUSAL(answer) ((answer) % 256)
+#define BIRDAGHOL_VALUE(answer) ((uint64_t)(answer) / 65536)
+#define BIRDAGHOL_MISSING(answer) ((uint64_t)(answer) / 256 % 256)
+#define BIRDAGHOL_REFUSAL(answer) ((uint64_t)(answer) % 256)
 
-/* 0 where the word is an instruction with these features, else the refusal: 1, 7 or 8. */
-uint32_t birdaghol_decode(uint32_t flags, uint32_t word);
+/* Tells whether the word is an instruction with these features. Value: 0. Refusal: 1, 7 or 8. */
+uint64_t birdaghol_decode(uint32_t flags, uint32_t word);
 
-/* Puts the text of a word, 47 bytes at most and no 0 after it, at the start of room. Value: its length. */
+/* Puts the text of a word, 47 bytes at most and no 0 after it, at the start of room. Value: its length. Refusal: 1, 7,
+   8 or 12, which leaves all of room as it was. */
 uint64_t birdaghol_print(uint32_t flags, uint32_t word, uint8_t *room, size_t room_len);
 
 /* The word whose text a line is, byte for byte as birdaghol_print gives it: with another case, a space more, a leading
@@ -64,16 +73,17 @@ uint64_t birdaghol_encode_zero(uint8_t mask);
 #define BIRDAGHOL_FIELDS 11
 
 /* Puts the description of a word at the start of fields: its kind, then the ten arguments of the encode function for it
-   in their order, true as 1 and false as 0; for a ZERO, the mask and nine zeros. Later numbers stay. 0, or the refusal,
+   in their order, true as 1 and false as 0; for a ZERO, the mask and nine zeros. Later numbers stay. Value: 0. Refusal:
    1, 7, 8 or 12, which leaves all of fields as they were. */
-uint32_t birdaghol_describe(uint32_t flags, uint32_t word, uint32_t *fields, size_t fields_len);
+uint64_t birdaghol_describe(uint32_t flags, uint32_t word, uint32_t *fields, size_t fields_len);
 
-/* Executes a word on za: 0, or the refusal, which leaves za as it was. */
-uint32_t birdaghol_execute(uint32_t flags, bool streaming, bool za_on, size_t vb, const uint8_t *z, size_t z_len,
+/* Executes a word on za. Value: 0. Refusal: 1 to 5 or 7 to 10, which leaves za as it was. */
+uint64_t birdaghol_execute(uint32_t flags, bool streaming, bool za_on, size_t vb, const uint8_t *z, size_t z_len,
                            const uint8_t *p, size_t p_len, uint8_t *za, size_t za_len, uint32_t word);
 
 /* Executes words in turn, up to the first that is refused. Value: how many were executed, beside a refusal too. It
-   reaches 65,536, which takes 17 bits, and is 0 beside refusals 1 to 6, which leave za as it was. */
+   reaches 65,536, which takes 17 bits, and is 0 beside refusals 1 to 6, which leave za as it was. Refusals 7 to 10, and
+   what is missing beside 8, are those of the next word. */
 uint64_t birdaghol_run(uint32_t flags, bool streaming, bool za_on, size_t vb, const uint8_t *z, size_t z_len,
                        const uint8_t *p, size_t p_len, uint8_t *za, size_t za_len, const uint32_t *words,
                        size_t words_len);

@@ -8,7 +8,8 @@ mod pseudocode;
 mod sample;
 
 use birdaghol::{Bench, Ended};
-use sample::{DAMAGES, LINES, Random, SMALL};
+use sample::line::SMALL;
+use sample::{DAMAGES, LINES, Random};
 use std::hint::black_box;
 use std::iter;
 use std::time::Instant;
@@ -113,7 +114,7 @@ fn run(vb: usize, rounds: usize, products: [u32; 2], predicates: u8) -> [f64; 2]
         },
         || {
             let ended = pseudocode::run(black_box(ordinary_bench), &z, &p, &mut ordinary_za, black_box(&words));
-            assert_eq!(ended, (4096, 0));
+            assert_eq!(ended, (4096, None));
         },
     );
     assert!(za == ordinary_za, "the two runs end with different ZA");

@@ -1,5 +1,5 @@
-//! The functions of the static library as C sees them: a buffer is its address and its length. A result of 64 bits is
-//! a value times 256, plus the refusal's number; one of 32 bits is that number alone.
+//! The functions of the static library as C sees them: a buffer is its address and its length. Every answer is a value
+//! times 65536, plus the sum of the missing flags times 256, plus the refusal's number.
 
 /// The kinds of instructions, a description's first number.
 pub const PREDICATED: u32 = 1;
@@ -10,7 +10,7 @@ pub const ZERO: u32 = 3;
 pub const FIELDS: usize = 11;
 
 unsafe extern "C" {
-    pub safe fn birdaghol_decode(flags: u32, word: u32) -> u32;
+    pub safe fn birdaghol_decode(flags: u32, word: u32) -> u64;
 
     pub fn birdaghol_print(flags: u32, word: u32, room: *mut u8, room_len: usize) -> u64;
 
@@ -44,7 +44,7 @@ unsafe extern "C" {
 
     pub safe fn birdaghol_encode_zero(mask: u8) -> u64;
 
-    pub fn birdaghol_describe(flags: u32, word: u32, fields: *mut u32, fields_len: usize) -> u32;
+    pub fn birdaghol_describe(flags: u32, word: u32, fields: *mut u32, fields_len: usize) -> u64;
 
     pub fn birdaghol_execute(
         flags: u32,
@@ -58,7 +58,7 @@ unsafe extern "C" {
         za: *mut u8,
         za_len: usize,
         word: u32,
-    ) -> u32;
+    ) -> u64;
 
     pub fn birdaghol_run(
         flags: u32,

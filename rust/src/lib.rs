@@ -223,9 +223,10 @@ impl Source {
     }
 }
 
-/// Takes a value times 256 plus a refusal's number apart.
+/// Takes value * 65536 + missing * 256 + refusal apart.
 fn unpack(answer: u64) -> (u64, Option<Refusal>) {
-    (answer / 256, Refusal::of((answer % 256) as u32))
+    let (missing, number) = (answer / 256 % 256, answer % 256);
+    (answer / 65536, Refusal::of(number as u32, missing as u32))
 }
 
 /// The value of an answer that has one beside no refusal.
@@ -234,7 +235,7 @@ fn value(answer: u64) -> Result<u64, Refusal> {
     refusal.map_or(Ok(value), Err)
 }
 
-/// An answer that is a refusal's number alone.
-fn accepted(number: u32) -> Result<(), Refusal> {
-    Refusal::of(number).map_or(Ok(()), Err)
+/// An answer that has no value.
+fn accepted(answer: u64) -> Result<(), Refusal> {
+    value(answer).map(|_| ())
 }

@@ -3,59 +3,86 @@
 use std::error::Error;
 use std::fmt;
 
+/// The features, each with its flag.
+const FEATURES: [(u32, &str); 4] = [(1, "SME"), (2, "I16I64"), (4, "MOP4"), (8, "SME2")];
+
 /// Why an input was refused; the tests are made in this order, but for `NotText`, which comes before `FeatureOff`, and
 /// the first that applies is given.
 #[derive(Clone, Copy, Debug, PartialEq, Eq)]
 pub enum Refusal {
-    Flags = 1,
-    VectorLength = 2,
-    ZLength = 3,
-    PLength = 4,
-    ZaLength = 5,
-    ListLength = 6,
-    Unlisted = 7,
-    FeatureOff = 8,
-    StreamingOff = 9,
-    ZaOff = 10,
-    OutOfRange = 11,
-    Room = 12,
-    NotText = 13,
+    Flags,
+    VectorLength,
+    ZLength,
+    PLength,
+    ZaLength,
+    ListLength,
+    Unlisted,
+    FeatureOff {
+        /// The sum of the flags that the word needs and that are off.
+        missing: u32,
+    },
+    StreamingOff,
+    ZaOff,
+    OutOfRange,
+    Room,
+    NotText,
 }
 
 impl Refusal {
-    /// All refusals, rising.
-    const ALL: [Refusal; 13] = [
-        Refusal::Flags,
-        Refusal::VectorLength,
-        Refusal::ZLength,
-        Refusal::PLength,
-        Refusal::ZaLength,
-        Refusal::ListLength,
-        Refusal::Unlisted,
-        Refusal::FeatureOff,
-        Refusal::StreamingOff,
-        Refusal::ZaOff,
-        Refusal::OutOfRange,
-        Refusal::Room,
-        Refusal::NotText,
-    ];
-
     /// The number of this refusal.
     pub fn number(self) -> u32 {
-        self as u32
+        match self {
+            Refusal::Flags => 1,
+            Refusal::VectorLength => 2,
+            Refusal::ZLength => 3,
+            Refusal::PLength => 4,
+            Refusal::ZaLength => 5,
+            Refusal::ListLength => 6,
+            Refusal::Unlisted => 7,
+            Refusal::FeatureOff { .. } => 8,
+            Refusal::StreamingOff => 9,
+            Refusal::ZaOff => 10,
+            Refusal::OutOfRange => 11,
+            Refusal::Room => 12,
+            Refusal::NotText => 13,
+        }
     }
 
-    /// The refusal of a number that the library answered, none for 0.
-    pub(crate) fn of(number: u32) -> Option<Refusal> {
-        let place = number.checked_sub(1)?;
-        Some(Refusal::ALL[place as usize])
+    /// The sum of the flags that the word needs and that are off; 0 for all but `FeatureOff`.
+    pub fn missing(self) -> u32 {
+        match self {
+            Refusal::FeatureOff { missing } => missing,
+            _ => 0,
+        }
+    }
+
+    /// The refusal of a number and a sum of missing flags that the library answered, none for 0.
+    pub(crate) fn of(number: u32, missing: u32) -> Option<Refusal> {
+        let refusal = match (number, missing) {
+            (0, 0) => return None,
+            (1, 0) => Refusal::Flags,
+            (2, 0) => Refusal::VectorLength,
+            (3, 0) => Refusal::ZLength,
+            (4, 0) => Refusal::PLength,
+            (5, 0) => Refusal::ZaLength,
+            (6, 0) => Refusal::ListLength,
+            (7, 0) => Refusal::Unlisted,
+            (8, 1..=15) => Refusal::FeatureOff { missing },
+            (9, 0) => Refusal::StreamingOff,
+            (10, 0) => Refusal::ZaOff,
+            (11, 0) => Refusal::OutOfRange,
+            (12, 0) => Refusal::Room,
+            (13, 0) => Refusal::NotText,
+            _ => unreachable!("refusal {number} does not come with missing flags {missing}"),
+        };
+        Some(refusal)
     }
 }
 
 impl fmt::Display for Refusal {
     /// What was wrong, in a few words.
     fn fmt(&self, f: &mut fmt::Formatter) -> fmt::Result {
-        f.write_str(match self {
+        f.write_str(match *self {
             Refusal::Flags => "flags are above 15",
             Refusal::VectorLength => "the vector length is not 16, 32, 64, 128 or 256 bytes",
             Refusal::ZLength => "Z does not hold 32 vectors",
@@ -63,7 +90,7 @@ impl fmt::Display for Refusal {
             Refusal::ZaLength => "ZA is not a square of the vector length",
             Refusal::ListLength => "the list has more than 65536 words",
             Refusal::Unlisted => "the word is no listed instruction",
-            Refusal::FeatureOff => "the word needs a feature that is off",
+            Refusal::FeatureOff { missing } => return features_off(f, missing),
             Refusal::StreamingOff => "an outer product needs streaming mode on",
             Refusal::ZaOff => "the word needs ZA on",
             Refusal::OutOfRange => "a field is out of range",
@@ -71,6 +98,14 @@ impl fmt::Display for Refusal {
             Refusal::NotText => "the line is the text of no listed word",
         })
     }
+}
+
+/// Names the features that a word lacks.
+fn features_off(f: &mut fmt::Formatter, missing: u32) -> fmt::Result {
+    let lacking = FEATURES.into_iter().filter(|(flag, _)| missing & flag != 0);
+    let names: Vec<&str> = lacking.map(|(_, name)| name).collect();
+    let are = if names.len() == 1 { "is" } else { "are" };
+    write!(f, "the word needs {}, which {are} off", names.join(" and "))
 }
 
 impl Error for Refusal {}

@@ -7,14 +7,14 @@ mod pseudocode;
 mod sample;
 
 use birdaghol::{Bench, Operation, Refusal, Source};
-use pseudocode::{Instruction, MOST_WORDS, OuterProduct, Sources};
+use pseudocode::{Instruction, MOST_WORDS, OuterProduct, Refused, Sources};
 use sample::{Case, DAMAGES, Guarded, Random, Tally, seeds};
 use std::fmt::{Arguments, Debug};
 
 /// The vector lengths, short ones more often.
 const LENGTHS: [usize; 9] = [16, 16, 16, 32, 32, 64, 64, 128, 256];
 
-/// A word gets the same answer under any flags.
+/// A word gets the same answer under any flags, as C gets it too.
 #[test]
 fn decode() {
     let mut tally = Tally::default();
@@ -22,11 +22,14 @@ fn decode() {
         let random = &mut Random::new(seed);
         let (flags, word) = (sample::flags(random), sample::word(random, 4));
         let expected = pseudocode::decode(flags, word).map(|_| ());
-        let answer = birdaghol::decode(flags, word).map_err(Refusal::number);
+        let answer = birdaghol::decode(flags, word).map_err(refused);
         assert_eq!(answer, expected, "seed {seed}: flags {flags}, word {word:08x}");
+        let answer = abi::birdaghol_decode(flags, word);
+        assert_eq!(answer, packed(expected), "seed {seed}: flags {flags}, word {word:08x}");
         tally.count(word, &expected);
     }
     tally.assert_covers(&[1, 7, 8], 10_000);
+    tally.assert_missing(10_000);
 }
 
 /// A room of any length gets the same text, or stays as it was.
@@ -42,12 +45,13 @@ fn print() {
         let case = format!("seed {seed}: flags {flags}, word {word:08x}, room {length}");
 
         let expected = pseudocode::print(flags, word, &mut text);
-        let answer = birdaghol::print(flags, word, room.lend()).map_err(Refusal::number);
+        let answer = birdaghol::print(flags, word, room.lend()).map_err(refused);
         assert_eq!(answer, expected, "{case}");
         assert!(room.holds(&text), "{case}: other bytes");
         tally.count(word, &expected);
     }
     tally.assert_covers(&[1, 7, 8, 12], 5_000);
+    tally.assert_missing(5_000);
 }
 
 /// The text of a listed word is read to that word, unless its flags refuse it.
@@ -63,6 +67,7 @@ fn read() {
         tally.count(word, &expected);
     }
     tally.assert_covers(&[1, 8], 5_000);
+    tally.assert_missing(5_000);
 }
 
 /// A damaged line gets the same answer, and is refused by 13 unless the damage made it the text of another word.
@@ -78,10 +83,11 @@ fn read_damaged_lines() {
         let answer = read_both(format_args!("seed {seed}, {}", damage.name), flags, &line);
         if line != text {
             tally.count(answer.unwrap_or(0), &answer);
-            tally.damage(damage, !matches!(answer, Err(1 | 13)));
+            tally.damage(damage, !matches!(answer, Err(Refused { number: 1 | 13, .. })));
         }
     }
     tally.assert_covers(&[1, 8, 13], 500);
+    tally.assert_missing(200);
     tally.assert_damaged(10_000, 100);
 }
 
@@ -105,10 +111,10 @@ fn read_every_text() {
 }
 
 /// Reads a line on both sides, and makes sure that it stays as it was.
-fn read_both(case: Arguments, flags: u32, line: &[u8]) -> Result<u32, u32> {
+fn read_both(case: Arguments, flags: u32, line: &[u8]) -> Result<u32, Refused> {
     let mut lent = Guarded::new(line);
     let expected = pseudocode::read(flags, line);
-    let answer = birdaghol::read(flags, lent.lend()).map_err(Refusal::number);
+    let answer = birdaghol::read(flags, lent.lend()).map_err(refused);
     assert_eq!(answer, expected, "{case}: flags {flags}, line `{}`", line.escape_ascii());
     assert!(lent.holds(line), "{case}: the line was written, or a guard fell");
     expected
@@ -122,7 +128,7 @@ fn describe() {
         let random = &mut Random::new(seed);
         let (flags, word) = (sample::flags(random), sample::word(random, 6));
         let expected = pseudocode::decode(flags, word).map(described);
-        let answer = birdaghol::describe(flags, word).map_err(Refusal::number);
+        let answer = birdaghol::describe(flags, word).map_err(refused);
         assert_eq!(answer, expected, "seed {seed}: flags {flags}, word {word:08x}");
         if let Ok(instruction) = answer {
             assert_eq!(birdaghol::encode(instruction), Ok(word), "seed {seed}: {instruction:?}");
@@ -130,6 +136,7 @@ fn describe() {
         tally.count(word, &expected);
     }
     tally.assert_covers(&[1, 7, 8], 10_000);
+    tally.assert_missing(10_000);
 }
 
 /// A room of any length gets the same numbers, or stays as it was.
@@ -148,11 +155,12 @@ fn describe_in_rooms() {
         let lent = room.lend();
         // SAFETY: the address and the length are those of one slice, lent for this call alone.
         let answer = unsafe { abi::birdaghol_describe(flags, word, lent.as_mut_ptr(), lent.len()) };
-        assert_eq!(answer, expected.err().unwrap_or(0), "{case}");
+        assert_eq!(answer, packed(expected), "{case}");
         assert!(room.holds(&fields), "{case}: other numbers");
         tally.count(word, &expected);
     }
     tally.assert_covers(&[1, 7, 8, 12], 5_000);
+    tally.assert_missing(5_000);
 }
 
 /// Fields in range get the same word, others are refused.
@@ -162,7 +170,7 @@ fn encode() {
     for seed in seeds(1_000_000) {
         let instruction = sample::instruction(&mut Random::new(seed));
         let expected = pseudocode::encode(instruction);
-        let answer = birdaghol::encode(described(instruction)).map_err(Refusal::number);
+        let answer = birdaghol::encode(described(instruction)).map_err(refused);
         assert_eq!(answer, expected, "seed {seed}: {instruction:?}");
         tally.count(expected.unwrap_or(0), &expected);
     }
@@ -191,12 +199,13 @@ fn execute() {
             &case,
             &format!("seed {seed}: {:?}, word {word:08x}", case.bench),
             |z, p, za| pseudocode::execute(case.bench, z, p, za, word),
-            |z, p, za| birdaghol::execute(bench(&case), z, p, za, word).map_err(Refusal::number),
+            |z, p, za| birdaghol::execute(bench(&case), z, p, za, word).map_err(refused),
         );
         tally.count(word, &expected);
         tally.accept_at(case.bench.vb, usize::from(expected.is_ok()));
     }
     tally.assert_covers(&[1, 2, 3, 4, 5, 7, 8, 9, 10], 500);
+    tally.assert_missing(200);
     tally.assert_lengths(5_000);
 }
 
@@ -210,14 +219,15 @@ fn run() {
         let length = if random.chance(50) { MOST_WORDS as u64 + 1 + random.below(99) } else { random.below(33) };
         let good = random.pick(&[7, 8]);
         let words: Vec<u32> = (0..length).map(|_| sample::word(random, good)).collect();
-        let (count, number) = run_both(seed, &case, &words);
+        let (count, refused) = run_both(seed, &case, &words);
         words[..count].iter().for_each(|&word| tally.accept(word));
         tally.accept_at(case.bench.vb, count);
-        if number != 0 {
-            tally.refuse(number);
+        if let Some(refused) = refused {
+            tally.refuse(refused);
         }
     }
     tally.assert_covers(&[1, 2, 3, 4, 5, 6, 7, 8, 9, 10], 100);
+    tally.assert_missing(50);
     tally.assert_lengths(5_000);
 }
 
@@ -232,13 +242,13 @@ fn run_longest_lists() {
         ends.push(run_both(seed, &case, &words[..MOST_WORDS]));
         ends.push(run_both(seed, &case, &words));
     }
-    for end in [(MOST_WORDS, 0), (0, 6)] {
+    for end in [(MOST_WORDS, None), (0, Some(Refused::by(6)))] {
         assert!(ends.iter().filter(|&&e| e == end).count() >= 50, "{end:?} is too rare");
     }
 }
 
-/// Runs a list on both sides: the number of words executed, and the refusal or 0.
-fn run_both(seed: u64, case: &Case, words: &[u32]) -> (usize, u32) {
+/// Runs a list on both sides: the number of words executed, and the refusal.
+fn run_both(seed: u64, case: &Case, words: &[u32]) -> (usize, Option<Refused>) {
     let before = words.to_vec();
     let label = format!("seed {seed}: {:?}, {} words", case.bench, words.len());
     let ended = compare(
@@ -247,7 +257,7 @@ fn run_both(seed: u64, case: &Case, words: &[u32]) -> (usize, u32) {
         |z, p, za| pseudocode::run(case.bench, z, p, za, words),
         |z, p, za| {
             let ended = birdaghol::run(bench(case), z, p, za, words);
-            (ended.count, ended.refusal.map_or(0, Refusal::number))
+            (ended.count, ended.refusal.map(refused))
         },
     );
     assert_eq!(words, before, "{label}: the list was written");
@@ -269,6 +279,16 @@ fn compare<T: PartialEq + Debug>(
     assert!(za.holds(&left), "{label}: another ZA, or a guard fell");
     assert!(z.holds(&case.z) && p.holds(&case.p), "{label}: Z or P was written");
     expected
+}
+
+/// A refusal of the library as the independent implementation has it.
+fn refused(refusal: Refusal) -> Refused {
+    Refused { number: refusal.number(), missing: refusal.missing() }
+}
+
+/// What a function without a value answers to C.
+fn packed(expected: Result<(), Refused>) -> u64 {
+    expected.err().map_or(0, |refused| (refused.missing * 256 + refused.number).into())
 }
 
 /// The library's bench for a case.

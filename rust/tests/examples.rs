@@ -14,6 +14,12 @@ const ZERO: u32 = 0xC008_00FF;
 /// A word with one of the longest texts.
 const LONGEST: u32 = 0x811E_8352;
 
+/// A word that is listed nowhere.
+const UNLISTED: u32 = 0x8100_0010;
+
+/// The word of `usmop4s za7.d, z0.h, z16.h`, which needs two features: I16I64 and MOP4.
+const USMOP4S_WIDE: u32 = 0xA1C0_001F;
+
 /// The names of tiles in the order of the lowest 64-bit tile that each holds, and all that it holds, as a mask.
 const TILES: [(&str, u8); 15] = [
     ("za", 0xFF),
@@ -77,6 +83,16 @@ fn replay(z0: [u8; 16], z1: [u8; 16], start: &[u8], words: &[u32]) -> Vec<u8> {
     za
 }
 
+/// One word executed on zeros.
+fn try_word(bench: Bench, word: u32) -> Result<(), Refusal> {
+    execute(bench, &[0; 512], &[0; 32], &mut [0; 256], word)
+}
+
+/// A list run on zeros.
+fn try_list(bench: Bench, words: &[u32]) -> Ended {
+    run(bench, &[0; 512], &[0; 32], &mut [0; 256], words)
+}
+
 /// A vector of zeros but for a 1 in one byte.
 fn one(byte: usize) -> [u8; 16] {
     let mut vector = [0; 16];
@@ -104,11 +120,11 @@ fn texts_and_refused_words() {
         assert_eq!(text(7, word).as_deref(), Ok(line));
         assert_eq!(read(7, line), Ok(word));
     }
-    for word in [0x8100_0010, 0xA0E1_0018, 0xA0E0_0038, 0xC008_0100] {
+    for word in [UNLISTED, 0xA0E1_0018, 0xA0E0_0038, 0xC008_0100] {
         assert_eq!(decode(7, word), Err(Refusal::Unlisted));
     }
-    assert_eq!(decode(4, 0xA1C0_001F), Err(Refusal::FeatureOff));
-    assert_eq!(text(6, 0xA1C0_001F).as_deref(), Ok("usmop4s za7.d, z0.h, z16.h"));
+    assert_eq!(decode(4, USMOP4S_WIDE), Err(Refusal::FeatureOff { missing: 2 }));
+    assert_eq!(text(6, USMOP4S_WIDE).as_deref(), Ok("usmop4s za7.d, z0.h, z16.h"));
 }
 
 #[test]
@@ -127,9 +143,90 @@ fn two_way_texts_and_refused_words() {
     for word in [0xA0A0_0008, 0x8020_8008] {
         assert_eq!(decode(15, word), Err(Refusal::Unlisted), "mixed signs");
     }
-    assert_eq!(decode(7, 0xA080_0008), Err(Refusal::FeatureOff));
-    assert_eq!(decode(11, 0x8000_8008), Err(Refusal::FeatureOff));
+    assert_eq!(decode(7, 0xA080_0008), Err(Refusal::FeatureOff { missing: 8 }));
+    assert_eq!(decode(11, 0x8000_8008), Err(Refusal::FeatureOff { missing: 4 }));
     assert_eq!(decode(16, 0xA080_0008), Err(Refusal::Flags));
+}
+
+/// Every call hands back what a word needs and lacks, whatever else is on; with that on too, the word is accepted.
+#[test]
+fn missing_features() {
+    for (flags, word, missing) in [
+        (0, USMOP4S_WIDE, 2 + 4),
+        (1 + 8, USMOP4S_WIDE, 2 + 4),
+        (4, USMOP4S_WIDE, 2),
+        (1 + 4 + 8, USMOP4S_WIDE, 2),
+        (2, USMOP4S_WIDE, 4),
+        (1 + 2 + 8, USMOP4S_WIDE, 4),
+        (0, SUMOPA, 1),
+        (2 + 4 + 8, SUMOPA, 1),
+        (0, UMOPA_WIDE, 2),
+        (1 + 4 + 8, UMOPA_WIDE, 2),
+        (0, SMOPA_2WAY, 8),
+        (1 + 2 + 4, SMOPA_2WAY, 8),
+        (0, LONGEST, 4),
+        (1 + 2 + 8, LONGEST, 4),
+        (0, 0x8000_8008, 4),
+        (1 + 2 + 8, 0x8000_8008, 4),
+        (0, ZERO, 1),
+        (2 + 4 + 8, ZERO, 1),
+    ] {
+        let refusal = Refusal::FeatureOff { missing };
+        let line = text(15, word).expect("a listed word");
+        let bench = Bench { flags, ..BENCH };
+        assert_eq!(decode(flags, word), Err(refusal), "{line}");
+        assert_eq!(describe(flags, word), Err(refusal), "{line}");
+        assert_eq!(text(flags, word), Err(refusal), "{line}");
+        assert_eq!(read(flags, &line), Err(refusal), "{line}");
+        assert_eq!(try_word(bench, word), Err(refusal), "{line}");
+        assert_eq!(try_list(bench, &[word]), Ended { count: 0, refusal: Some(refusal) }, "{line}");
+        assert_eq!(decode(flags + missing, word), Ok(()), "{line}");
+    }
+}
+
+/// A feature that is off is tested after the line and the lengths, before the modes and the room.
+#[test]
+fn missing_features_among_other_refusals() {
+    let off = Bench { flags: 0, streaming: false, za_on: false, vb: 16 };
+    for (word, missing) in [(USMOP4S_WIDE, 2 + 4), (SMOPA_2WAY, 8), (ZERO, 1)] {
+        let refusal = Refusal::FeatureOff { missing };
+        assert_eq!(try_word(off, word), Err(refusal), "before 9 and 10");
+        assert_eq!(print(0, word, &mut []), Err(refusal), "before 12");
+        assert_eq!(try_word(Bench { vb: 15, ..off }, word), Err(Refusal::VectorLength));
+        assert_eq!(try_list(off, &vec![word; 65_537]), Ended { count: 0, refusal: Some(Refusal::ListLength) });
+        assert_eq!(decode(16, word), Err(Refusal::Flags));
+        assert_eq!(print(16, word, &mut []), Err(Refusal::Flags));
+        assert_eq!(try_word(Bench { flags: 16, ..off }, word), Err(Refusal::Flags));
+    }
+    assert_eq!(read(0, "usmop4s za7.d, z0.h, z16.h"), Err(Refusal::FeatureOff { missing: 2 + 4 }));
+    assert_eq!(read(0, "usmop4s za8.d, z0.h, z16.h"), Err(Refusal::NotText));
+    assert_eq!(read(16, "usmop4s za7.d, z0.h, z16.h"), Err(Refusal::Flags));
+    assert_eq!(decode(0, UNLISTED), Err(Refusal::Unlisted));
+    assert_eq!(try_word(off, UNLISTED), Err(Refusal::Unlisted));
+}
+
+/// A run hands back what its next word lacks, and not what a later one does.
+#[test]
+fn lists_stopped_by_a_missing_feature() {
+    let list = [ZERO, SUMOPA, USMOP4S_WIDE, SMOPA_2WAY];
+    for (flags, count, missing) in [(0, 0, 1), (1, 2, 6), (1 + 8, 2, 6), (1 + 4, 2, 2), (1 + 2, 2, 4), (7, 3, 8)] {
+        let ended = try_list(Bench { flags, ..BENCH }, &list);
+        assert_eq!(ended, Ended { count, refusal: Some(Refusal::FeatureOff { missing }) }, "flags {flags}");
+    }
+    assert_eq!(try_list(BENCH, &list), Ended { count: 4, refusal: None });
+}
+
+#[test]
+fn missing_features_by_their_names() {
+    for (missing, sentence) in [
+        (1, "the word needs SME, which is off"),
+        (2, "the word needs I16I64, which is off"),
+        (4, "the word needs MOP4, which is off"),
+        (6, "the word needs I16I64 and MOP4, which are off"),
+        (8, "the word needs SME2, which is off"),
+    ] {
+        assert_eq!(Refusal::FeatureOff { missing }.to_string(), sentence);
+    }
 }
 
 #[test]
@@ -250,14 +347,14 @@ fn lines_of_features_that_are_off() {
         (7, 8, "smops za3.s, p2/m, p5/m, z3.h, z17.h"),
         (11, 4, "usmop4s za0.s, z0.b, z16.b"),
         (11, 4, "umop4s za0.s, z0.h, z16.h"),
-        (4, 6, "usmop4s za7.d, z0.h, z16.h"),
+        (9, 6, "usmop4s za7.d, z0.h, z16.h"),
         (14, 1, "zero {}"),
     ] {
-        assert_eq!(read(off, line), Err(Refusal::FeatureOff), "{line}");
+        assert_eq!(read(off, line), Err(Refusal::FeatureOff { missing: on }), "{line}");
         assert_eq!(read(on, line), read(15, line), "{line}");
         assert_eq!(read(16, line), Err(Refusal::Flags), "{line}");
     }
-    assert_eq!(read(6, "usmop4s za7.d, z0.h, z16.h"), Ok(0xA1C0_001F));
+    assert_eq!(read(6, "usmop4s za7.d, z0.h, z16.h"), Ok(USMOP4S_WIDE));
 }
 
 #[test]
@@ -279,11 +376,9 @@ fn words_of_descriptions_and_back() {
         assert_eq!(encode(instruction), Ok(word));
         assert_eq!(describe(15, word), Ok(instruction));
     }
-    for (flags, word, refusal) in
-        [(16, 0x8100_0010, Refusal::Flags), (15, 0x8100_0010, Refusal::Unlisted), (7, 0xA091_A86B, Refusal::FeatureOff)]
-    {
-        assert_eq!(describe(flags, word), Err(refusal));
-    }
+    assert_eq!(describe(16, UNLISTED), Err(Refusal::Flags));
+    assert_eq!(describe(15, UNLISTED), Err(Refusal::Unlisted));
+    assert_eq!(describe(7, 0xA091_A86B), Err(Refusal::FeatureOff { missing: 8 }));
 }
 
 #[test]
@@ -318,8 +413,8 @@ fn every_refusal_by_its_name() {
         (stopped(BENCH, 512, 31, 256, 1), Refusal::PLength),
         (stopped(BENCH, 512, 32, 255, 1), Refusal::ZaLength),
         (stopped(BENCH, 512, 32, 256, 65_537), Refusal::ListLength),
-        (decode(7, 0x8100_0010).unwrap_err(), Refusal::Unlisted),
-        (stopped(Bench { flags: 2, ..BENCH }, 512, 32, 256, 1), Refusal::FeatureOff),
+        (decode(7, UNLISTED).unwrap_err(), Refusal::Unlisted),
+        (stopped(Bench { flags: 2, ..BENCH }, 512, 32, 256, 1), Refusal::FeatureOff { missing: 1 }),
         (stopped(Bench { streaming: false, ..BENCH }, 512, 32, 256, 1), Refusal::StreamingOff),
         (stopped(Bench { za_on: false, ..BENCH }, 512, 32, 256, 1), Refusal::ZaOff),
         (encode(Instruction::Predicated { op, tile: 0, pn: 0, pm: 0, zn: 0, zm: 0 }).unwrap_err(), Refusal::OutOfRange),
@@ -328,6 +423,7 @@ fn every_refusal_by_its_name() {
     ];
     for (number, (refusal, name)) in (1..).zip(refusals) {
         assert_eq!((refusal, refusal.number()), (name, number));
+        assert_eq!(refusal.missing(), if number == 8 { 1 } else { 0 }, "{refusal}");
     }
 }
 
@@ -406,7 +502,6 @@ fn an_empty_predicate_changes_nothing() {
 
 #[test]
 fn lengths_and_modes() {
-    let try_word = |bench, word| execute(bench, &[0; 512], &[0; 32], &mut [0; 256], word);
     for vb in [15, 17] {
         assert_eq!(try_word(Bench { vb, ..BENCH }, ZERO), Err(Refusal::VectorLength));
     }
@@ -416,7 +511,7 @@ fn lengths_and_modes() {
     assert_eq!(try_word(off, 0xA080_0000), Err(Refusal::StreamingOff));
     assert_eq!(try_word(off, ZERO), Err(Refusal::ZaOff));
 
-    let list = |length| run(BENCH, &[0; 512], &[0; 32], &mut [0; 256], &vec![ZERO; length]);
+    let list = |length| try_list(BENCH, &vec![ZERO; length]);
     assert_eq!(list(65_536), Ended { count: 65_536, refusal: None });
     assert_eq!(list(65_537), Ended { count: 0, refusal: Some(Refusal::ListLength) });
 }

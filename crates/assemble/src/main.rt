@@ -185,21 +185,13 @@ fn take_refusal(counts: Counts, line_number: u64, refusal: Refusal) -> Counts
     ensures { λ r. ⌜ r .refused ≡ sum (counts .refused) 1 ⌝ }
 {
     tell_number(b"line ", line_number);
-    tell_refusal(isa::number(refusal));
+    tell(b": refused ");
+    checks::write_refusal(STDERR_FILENO, refusal);
+    tell(b"\n");
     Counts {
         words: counts.words,
         written: counts.written,
         refused: plus(counts.refused, 1),
-    }
-}
-
-// A refusal and what it means. With every feature on, no line gets another than 13.
-fn tell_refusal(number: u32) {
-    tell_number(b": refused ", number as u64);
-    match number {
-        13 => tell(b", it is the text of no listed word\n"),
-        8 => tell(b", its word needs a feature that is off\n"),
-        _ => tell(b", flags are out of range\n"),
     }
 }
 

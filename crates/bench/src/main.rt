@@ -6,6 +6,7 @@ ghost use lib.ListN.{length};
 ghost use Rattle.replay.specs.Lists.{mostWords};
 use isa::Decoded;
 use isa::Instruction;
+use isa::Refusal;
 use libc::STDOUT_FILENO;
 use replay::Bench;
 use replay::Outcome;
@@ -16,7 +17,7 @@ const FLAGS: u32 = 7;
 
 const ALL_FEATURES: u32 = 15;
 
-// Words on Z0, all of them with P0 unless the name says otherwise.
+// Words on Z0, all of them with P0 unless the name says otherwise; USMOP4S takes Z16 beside it.
 const SMOPA: u32 = 0xA080_0000;
 
 const SUMOPA: u32 = 0xA0A0_0000;
@@ -28,6 +29,8 @@ const UMOPA: u32 = 0xA1A0_0000;
 const UMOPA_P0_P1: u32 = 0xA1A0_2000;
 
 const UMOPA_WIDE: u32 = 0xA1E0_0000;
+
+const USMOP4S_WIDE: u32 = 0xA1C0_001F;
 
 const ZERO_ALL: u32 = 0xC008_00FF;
 
@@ -55,6 +58,7 @@ fn main() {
     sums();
     carries();
     modes();
+    features();
     lists();
     lengths();
     two_way_words();
@@ -70,10 +74,11 @@ fn texts() {
     text_of(FLAGS, 0xA0E0_0018);
     text_of(FLAGS, 0xA0E1_0018);
     text_of(FLAGS, 0xA0E0_0038);
-    text_of(4, 0xA1C0_001F);
-    text_of(6, 0xA1C0_001F);
+    text_of(0, USMOP4S_WIDE);
+    text_of(4, USMOP4S_WIDE);
+    text_of(6, USMOP4S_WIDE);
     text_of(FLAGS, 0xC008_0100);
-    tile_of(6, 0xA1C0_001F);
+    tile_of(6, USMOP4S_WIDE);
 }
 
 // The words that the examples below execute, so that their names can be held against them.
@@ -199,6 +204,28 @@ fn modes() {
     );
 }
 
+// What a word misses, executed and in a run; 8 comes before the modes are tested.
+fn features() {
+    let z = plus_one();
+    let p = [0xFFu8; 32];
+    example(b"umopa, flags 14", with_flags(14), &z, &p, 0xFF, UMOPA);
+    features_of_usmop4s(&z, &p);
+    example(
+        b"smopa, 2-way, both off",
+        modes_of(false, false),
+        &z,
+        &p,
+        0xFF,
+        SMOPA_TWO_WAY,
+    );
+    list_example(b"umopa, then smopa, 2-way", &z, &p, &[UMOPA, SMOPA_TWO_WAY]);
+}
+
+fn features_of_usmop4s(z: &[u8], p: &[u8]) {
+    example(b"usmop4s, flags 0", with_flags(0), z, p, 0xFF, USMOP4S_WIDE);
+    example(b"usmop4s, flags 4", with_flags(4), z, p, 0xFF, USMOP4S_WIDE);
+}
+
 // As C-16 of document 02 amends the example.
 fn lists() {
     let z = plus_one();
@@ -289,7 +316,7 @@ fn text_of(flags: u32, word: u32) {
     let mut room = [0u8; 47];
     match text::print(flags, word, &mut room) {
         Printed::Length(n) => io::write_all(STDOUT_FILENO, first(&room, n)),
-        Printed::Refused(r) => decimal(b"refused ", isa::number(r) as u64),
+        Printed::Refused(r) => refused(r),
     }
     ;
     io::write_all(STDOUT_FILENO, b"\n");
@@ -300,7 +327,7 @@ fn tile_of(flags: u32, word: u32) {
     word_name(flags, word);
     match isa::decode(flags, word) {
         Decoded::Accepted(i) => decimal(b"tile ", tile_number(i)),
-        Decoded::Refused(r) => decimal(b"refused ", isa::number(r) as u64),
+        Decoded::Refused(r) => refused(r),
     }
     ;
     io::write_all(STDOUT_FILENO, b"\n");
@@ -334,9 +361,9 @@ fn example(name: &[u8], bench: Bench, z: &[u8], p: &[u8], start: u8, word: u32) 
 
 // Executes a word on ZA: its number, which bytes differ then from the start, and element (0, 0) of ZA0.S.
 fn example_on(name: &[u8], bench: Bench, z: &[u8], p: &[u8], za: &mut [u8], start: u8, word: u32) {
-    let number = number_of(replay::execute(bench, z, p, za, word));
+    let outcome = replay::execute(bench, z, p, za, word);
     io::write_all(STDOUT_FILENO, name);
-    decimal(b": ", number);
+    number_of(b": ", outcome);
     let n = changed(za, start);
     decimal(b", changed ", n as u64);
     if 0 < n {
@@ -359,11 +386,11 @@ fn in_turn(name: &[u8], z: &[u8], p: &[u8], one: u32, two: u32) {
 }
 
 fn in_turn_on(name: &[u8], z: &[u8], p: &[u8], za: &mut [u8], one: u32, two: u32) {
-    let first_number = number_of(replay::execute(on(), z, p, za, one));
-    let second_number = number_of(replay::execute(on(), z, p, za, two));
+    let first = replay::execute(on(), z, p, za, one);
+    let second = replay::execute(on(), z, p, za, two);
     io::write_all(STDOUT_FILENO, name);
-    decimal(b": ", first_number);
-    decimal(b", ", second_number);
+    number_of(b": ", first);
+    number_of(b", ", second);
     hex(b", ", element32(za, 4));
     hex(b"", element32(za, 0));
     io::write_all(STDOUT_FILENO, b"\n");
@@ -376,16 +403,34 @@ fn list_example(name: &[u8], z: &[u8], p: &[u8], words: &[u32]) {
     let outcome = ended.outcome;
     io::write_all(STDOUT_FILENO, name);
     decimal(b": count ", ended.count as u64);
-    decimal(b", ", number_of(outcome));
+    number_of(b", ", outcome);
     decimal(b", za0.s (0, 0) ", element32(&za, 0));
     io::write_all(STDOUT_FILENO, b"\n");
 }
 
-fn number_of(outcome: Outcome) -> u64 {
+// The number of an outcome, and beside 8 the sum.
+fn number_of(before: &[u8], outcome: Outcome) -> bool {
     match outcome {
-        Outcome::Done => 0,
-        Outcome::Refused(r) => isa::number(r) as u64,
+        Outcome::Done => decimal(before, 0),
+        Outcome::Refused(r) => {
+            decimal(before, isa::number(r) as u64);
+            missing(r)
+        }
     }
+}
+
+// A refusal in words, and the sum beside 8.
+fn refused(r: Refusal) -> bool {
+    io::write_all(STDOUT_FILENO, b"refused ");
+    checks::write_refusal(STDOUT_FILENO, r);
+    missing(r)
+}
+
+fn missing(r: Refusal) -> bool {
+    if isa::missing(r) == 0 {
+        return true;
+    }
+    decimal(b", missing ", isa::missing(r) as u64)
 }
 
 fn word_name(flags: u32, word: u32) {

@@ -8,9 +8,10 @@ use native.Mathlib.Omega.{arith}
 use lib.Dec.{eqb, ltb}
 use lib.ListN.{length, take, drop}
 use lib.Seq.{take-append-seam, drop-append-seam}
-use Rattle.isa.specs.Refusals.{number, refusalNumber, firstFailure}
+use Rattle.isa.specs.Refusals.{firstFailure}
 use Rattle.isa.specs.Table.{bit, one?, register, elementBytes, productsOf}
 use Rattle.isa.specs.Answers.{describe, decodeOf}
+use Rattle.isa.specs.Claims.{HandsBack}
 use Rattle.isa.specs.declared.Operation.{Operation}
 use Rattle.isa.specs.declared.Instruction.{Instruction}
 use Rattle.isa.specs.declared.Instruction.the-variants.{Predicated, Quarter, Zero}
@@ -19,12 +20,13 @@ use Rattle.isa.specs.declared.Refusal.the-variants.{Room}
 use Rattle.isa.specs.declared.Decoded.the-variants.{Accepted, Refused as NotDecoded}
 use Rattle.isa.specs.declared.Encoded.the-variants.{Word}
 use Rattle.isa.proofs.Answers.{decode-passed, room-refused, room-passed, encode-in-range}
+use Rattle.isa.proofs.Sums.{handed, room-fair}
 use Rattle.isa.proofs.Lines.{one-bit, source-back}
 use Rattle.isa.proofs.Theorems.{described-is}
 use Rattle.text.specs.Printing.{filled}
 use Rattle.text.proofs.Theorems.{Outcome, fits, short, refused}
-use Rattle.birdaghol.specs.Calls.{packed, sized, operation, packedEncoded, encodeCall}
-use Rattle.birdaghol.specs.Fields.{numbersOf, numbersIn, fieldCount, describeTests, describeCall, fieldsAfter, encodeNumbers}
+use Rattle.birdaghol.specs.Calls.{answer, sized, operation, packedEncoded, encodeCall}
+use Rattle.birdaghol.specs.Fields.{numbersOf, numbersIn, fieldCount, describeTests, describeNumber, describeMissing, describeCall, fieldsAfter, encodeNumbers}
 
 -- every description has as many numbers
 pub numbers-length : (i : Instruction) → length (numbersOf i) ≡ fieldCount
@@ -37,12 +39,8 @@ module _ (flags w : ℕ) (i : Instruction) (p : decodeOf flags w ≡ Accepted i)
   accepted-tests : (n : ℕ) → firstFailure (describeTests flags w n) ≡ cond (ltb n fieldCount) (some Room) none
   accepted-tests n = room-passed flags w n (length (numbersIn (describe w))) i p ∙ rw (decode-passed flags w i p .1, numbers-length i)
 
-  pub call-accepted : (n : ℕ) → describeCall flags w n ≡ cond (ltb n fieldCount) (number Room) 0
-  call-accepted n = rw (accepted-tests n) (go (ltb n fieldCount))
-    where
-      go : (b : Bool) → refusalNumber (cond b (some Room) none) ≡ cond b (number Room) 0
-      go true = refl
-      go false = refl
+  pub call-accepted : (n : ℕ) → describeCall flags w n ≡ answer 0 (cond (ltb n fieldCount) (some Room) none)
+  call-accepted n = ap (answer 0) (accepted-tests n)
 
   pub fields-accepted : (fields : List ℕ) → fieldsAfter flags w fields ≡ cond (ltb (length fields) fieldCount) fields (numbersOf i ++ drop fieldCount fields)
   fields-accepted fields = rw (accepted-tests (length fields), decode-passed flags w i p .1) (go (ltb (length fields) fieldCount))
@@ -52,11 +50,14 @@ module _ (flags w : ℕ) (i : Instruction) (p : decodeOf flags w ≡ Accepted i)
       go false = rw (numbers-length i)
 
 module _ (flags w : ℕ) (r : Refusal) (p : decodeOf flags w ≡ NotDecoded r) where
-  pub call-refused : (n : ℕ) → describeCall flags w n ≡ number r
+  pub call-refused : (n : ℕ) → describeCall flags w n ≡ answer 0 (some r)
   call-refused n = rw (room-refused flags w n (length (numbersIn (describe w))) r p)
 
   pub fields-refused : (fields : List ℕ) → fieldsAfter flags w fields ≡ fields
   fields-refused fields = rw (room-refused flags w (length fields) (length (numbersIn (describe w))) r p)
+
+pub describe-handed : (flags w n : ℕ) → HandsBack flags w (describeNumber flags w n) (describeMissing flags w n)
+describe-handed flags w n = handed flags w (describeTests flags w n) (room-fair flags w n (length (numbersIn (describe w))))
 
 -- ---- the numbers encode to the word again
 operation-again : (op : Operation)
@@ -90,7 +91,7 @@ encoded-again (Zero mask) rest = refl
 -- what is known of the numbers of an accepted word
 pub record Described (w : ℕ) (numbers : List ℕ) : Type 0 where
   pub count : length numbers ≡ fieldCount
-  pub encodes : w < 2 ^ 32 → (rest : List ℕ) → encodeNumbers (numbers ++ rest) ≡ packed w 0
+  pub encodes : w < 2 ^ 32 → (rest : List ℕ) → encodeNumbers (numbers ++ rest) ≡ answer w none
 
 pub numbers-described : (flags w : ℕ) (i : Instruction) → decodeOf flags w ≡ Accepted i → Described w (numbersIn (describe w))
 numbers-described flags w i p =
@@ -115,7 +116,7 @@ module _ {w : ℕ} {t fields : List ℕ} where
   fields-numbers (short h q) e = absurd (omega arith)
   fields-numbers (refused h l) e = absurd (omega arith)
 
-  pub fields-encoded : {d p n : ℕ} {after : List ℕ} → Outcome (Described w t) t fields d p n after → w < 2 ^ 32 → p ≡ 0 → encodeNumbers after ≡ packed w 0
+  pub fields-encoded : {d p n : ℕ} {after : List ℕ} → Outcome (Described w t) t fields d p n after → w < 2 ^ 32 → p ≡ 0 → encodeNumbers after ≡ answer w none
   fields-encoded (fits h q) l e = q .encodes l (drop (length t) fields)
   fields-encoded (short h q) l e = absurd (omega arith)
   fields-encoded (refused h k) l e = absurd (omega arith)

@@ -1,25 +1,45 @@
 -- Answers packed beside their refusals, and that they fit: texts and runs are short. Assumes nothing.
-use mathlib.Core.Path.{_≡_, _∙_, sym, ap, subst}
+use mathlib.Core.Path.{_≡_, _∙_, refl, sym, ap, subst}
+use mathlib.Core.Bool.{Bool, true, false}
 use mathlib.Core.List.{List}
-use Prim.Native.Nat.{ℕ, _*_, _≤_}
+use mathlib.Core.Option.{Option, none, some}
+use Prim.Native.Nat.{ℕ, _+_, _*_, _≤_, _<_}
 use native.Mathlib.Omega.{arith}
 use lib.ListN.{length}
+use lib.Dec.{eqb}
+use borrow.Author.Tests.{eqb-true, eqb-false}
+use Rattle.isa.specs.Refusals.{refusalNumber}
+use Rattle.isa.specs.Claims.{HandsBack}
+use Rattle.isa.specs.declared.Refusal.{Refusal}
+use Rattle.isa.proofs.Refusals.{number-between}
+use Rattle.isa.proofs.Theorems.{decodes}
 use Rattle.text.specs.Printing.{printOf, printedNumber, printedLength}
 use Rattle.text.specs.declared.Printed.the-variants.{Length}
 use Rattle.text.proofs.Theorems.{prints}
-use Rattle.replay.specs.Execution.{outcomeNumber}
+use Rattle.replay.specs.Execution.{refusalOf, outcome, outcomeRefusal}
 use Rattle.replay.specs.Lists.{mostWords, runOf}
 use Rattle.replay.specs.Machine.{Machine}
 use Rattle.replay.specs.declared.Ended.{Ended}
+use Rattle.replay.specs.declared.Outcome.{Outcome}
+use Rattle.replay.proofs.Tests.{outcome-back}
 use Rattle.replay.proofs.Theorems.{runs}
-use Rattle.birdaghol.specs.Calls.{packed, runCall}
+use Rattle.birdaghol.specs.Calls.{answer, executeCall, packedEnded, runCall}
 
--- an answer with no refusal, and one with no value
-pub value-alone : (v : ℕ) → v * 256 ≡ packed v 0
+-- an answer with no refusal
+pub value-alone : (v : ℕ) → v * 65536 ≡ answer v none
 value-alone v = omega arith
 
-pub refusal-alone : (n : ℕ) → n ≡ packed 0 n
-refusal-alone n = omega arith
+-- a refusal's number and its sum take a byte each
+pub number-fits : (o : Option Refusal) → refusalNumber o < 256
+number-fits none = omega arith
+number-fits (some r) = omega (arith, number-between r .1)
+
+pub sum-fits : {flags w number sum : ℕ} → HandsBack flags w number sum → sum < 256
+sum-fits {flags} {w} {number} {sum} h = go (eqb number 8) refl
+  where
+    go : (b : Bool) → eqb number 8 ≡ b → sum < 256
+    go true e = let s = h .beside-8 (eqb-true number 8 e) in omega (arith, decodes flags w .missing-most)
+    go false e = let s = h .beside-others (eqb-false number 8 e) in omega arith
 
 pub printed-short : (flags w : ℕ) (room : List ℕ) (n : ℕ) → printOf flags w (length room) ≡ Length n → n ≤ 47
 printed-short flags w room n e =
@@ -27,9 +47,18 @@ printed-short flags w room n e =
     let l = ap printedLength e in
     omega arith
 
--- a run's count reaches 65,536, which takes 17 bits: with the refusal's 8 its answer has 25 of the 64
-pub run-short : (m : Machine) (ws : List ℕ) (e : Ended) → e ≡ runOf m ws → e .count ≤ mostWords
-run-short m ws e h = subst (λ (e : Ended). e .count ≤ mostWords) (sym h) (runs m ws .most)
+-- a run's count reaches 65,536, which takes 17 bits: with the 16 below it its answer has 33 of the 64
+pub run-short : (m : Machine) (ws : List ℕ) (e : Ended) → e ≡ runOf m ws → (e .count ≤ mostWords) × (answer 0 (outcomeRefusal (e .outcome)) < 65536)
+run-short m ws e h =
+    subst (λ (e : Ended). (e .count ≤ mostWords) × (answer 0 (outcomeRefusal (e .outcome)) < 65536)) (sym h)
+    (runs m ws .most, omega (arith, number-fits (outcomeRefusal (runOf m ws .outcome)), sum-fits (runs m ws .hands-back)))
 
-pub ended-packed : (m : Machine) (ws : List ℕ) (e : Ended) (n : ℕ) → e ≡ runOf m ws → n ≡ outcomeNumber (e .outcome) → packed (e .count) n ≡ runCall m ws
-ended-packed m ws e n h k = ap (packed (e .count)) k ∙ ap (λ (e : Ended). packed (e .count) (outcomeNumber (e .outcome))) h
+-- what execute and run answer, packed
+pub outcome-packed : (m : Machine) (w : ℕ) {a : Outcome} → a ≡ outcome (refusalOf m w) → answer 0 (outcomeRefusal a) ≡ executeCall m w
+outcome-packed m w e = ap (λ (a : Outcome). answer 0 (outcomeRefusal a)) e ∙ ap (answer 0) (outcome-back (refusalOf m w))
+
+pub ended-packed : (m : Machine) (ws : List ℕ) (e : Ended) {n : ℕ} → e ≡ runOf m ws → n ≡ answer 0 (outcomeRefusal (e .outcome))
+    → e .count * 65536 + n ≡ runCall m ws
+ended-packed m ws e {n} h k =
+    let p : e .count * 65536 + n ≡ packedEnded e = rw k (omega arith) in
+    p ∙ ap packedEnded h

@@ -3,65 +3,70 @@ use mathlib.Core.Path.{_≡_, sym, refl, ap, subst}
 use mathlib.Core.Bool.{Bool, true, false, false≢true, cond, _&&_, _||_}
 use mathlib.Core.Logic.{_⊎_, inl, inr}
 use mathlib.Core.List.{List}
-use mathlib.Core.Option.{none, some}
+use mathlib.Core.Option.{Option, none, some}
 use Prim.Native.Nat.{ℕ, _<_}
 use native.Mathlib.Omega.{arith}
 use lib.Dec.{eqb}
 use lib.ListN.{length}
-use borrow.Author.Tests.{eqb-true, ltb-true, leb-true, eq-eqb, lt-ltb, le-leb}
+use borrow.Author.Tests.{eqb-true, eqb-false, ltb-true, leb-true, eq-eqb, lt-ltb, le-leb}
 use Rattle.isa.specs.Table.{bit, isFormed, ranges, inRange}
-use Rattle.isa.specs.Answers.{describe}
+use Rattle.isa.specs.Refusals.{refusalNumber, refusalMissing}
+use Rattle.isa.specs.Answers.{describe, decodeRefusal}
 use Rattle.isa.specs.Claims.{OnlyWord}
 use Rattle.isa.specs.declared.Instruction.{Instruction}
 use Rattle.isa.specs.declared.Instruction.the-variants.{Zero}
 use Rattle.isa.proofs.Tests.{every-all, all-every}
 use Rattle.isa.proofs.Rows.{both}
 use Rattle.isa.proofs.Lines.{source-register}
-use Rattle.isa.proofs.Refusals.{number-between}
+use Rattle.isa.specs.declared.Refusal.{Refusal}
 use Rattle.isa.proofs.Answers.{encode-out-of-range}
-use Rattle.isa.proofs.Theorems.{encodes}
-use Rattle.text.specs.Printing.{printOf, printedNumber}
-use Rattle.text.proofs.Theorems.{put-outcome, accepts, same, gives-12, known, unchanged}
-use Rattle.text.specs.declared.Printed.{Printed}
-use Rattle.text.specs.declared.Printed.the-variants.{Length, Refused as NotPrinted}
+use Rattle.isa.proofs.Theorems.{decodes, encodes}
+use Rattle.text.specs.Printing.{printOf, printedRefusal, printedLength}
+use Rattle.text.proofs.Theorems.{prints, put-outcome, accepts, same, gives-12, known, unchanged}
 use Rattle.text.specs.Spelling.{Text}
-use Rattle.reader.specs.Answers.{readOf, readingNumber}
-use Rattle.reader.specs.declared.Reading.{Reading}
-use Rattle.reader.specs.declared.Reading.the-variants.{Word, Refused as NotRead}
-use Rattle.replay.specs.Execution.{outcomeNumber}
+use Rattle.reader.specs.Answers.{readOf, readingRefusal, readingWord, readNumber, readMissing}
+use Rattle.reader.proofs.Theorems.{reads}
+use Rattle.replay.specs.Execution.{refusalOf, outcomeRefusal}
 use Rattle.replay.specs.Lists.{runOf}
 use Rattle.replay.specs.Machine.{Machine}
-use Rattle.replay.specs.declared.Outcome.{Outcome}
-use Rattle.replay.specs.declared.Outcome.the-variants.{Done, Refused}
-use Rattle.birdaghol.specs.Calls.{packed, sized, operation, packedEncoded, encodeCall, askedPredicated, askedQuarter}
-use Rattle.birdaghol.specs.Fields.{numbersIn}
-use Rattle.birdaghol.specs.Claims.{Unpacks, PrintUnpacks, ReadUnpacks, RunUnpacks, ElementSize, Formed, PredicatedFits, QuarterFits}
+use Rattle.replay.proofs.Tests.{outcome-back}
+use Rattle.replay.proofs.Theorems.{executes, runs}
+use Rattle.birdaghol.specs.Calls.{answer, sized, operation, packedEncoded, encodeCall, askedPredicated, askedQuarter}
+use Rattle.birdaghol.specs.Fields.{numbersIn, describeRefusal}
+use Rattle.birdaghol.specs.Claims.{Unpacks, DecodeUnpacks, DescribeUnpacks, PrintUnpacks, ReadUnpacks, ExecuteUnpacks, RunUnpacks, ElementSize, Formed, PredicatedFits, QuarterFits}
 use Rattle.birdaghol.specs.Claims.{EncodeAnswers, PredicatedAnswers, QuarterAnswers, ZeroAnswers, DescribeAnswers}
-use Rattle.birdaghol.proofs.Fields.{Described, numbers-described, fields-numbers, fields-rest, fields-encoded}
+use Rattle.birdaghol.proofs.Packing.{number-fits, sum-fits}
+use Rattle.birdaghol.proofs.Fields.{describe-handed, Described, numbers-described, fields-numbers, fields-rest, fields-encoded}
 
-unpacks : (v n : ℕ) → n < 256 → Unpacks (packed v n) v n
-unpacks v n h = record { value-is = omega arith; refusal-is = omega arith }
+-- ---- an answer whose sum takes a byte
+unpacks : (v : ℕ) (o : Option Refusal) → refusalMissing o < 256 → Unpacks (answer v o) v (refusalMissing o) (refusalNumber o)
+unpacks v o h =
+    let n = number-fits o in
+    record { value-is = omega arith; missing-is = omega arith; refusal-is = omega arith }
 
-printed-number : (a : Printed) → printedNumber a < 256
-printed-number (Length n) = omega arith
-printed-number (NotPrinted r) = omega (arith, number-between r .1)
+pub decode-unpacks : (flags w : ℕ) → DecodeUnpacks flags w
+decode-unpacks flags w = unpacks 0 (decodeRefusal flags w) (sum-fits (decodes flags w .hands-back))
 
-reading-number : (a : Reading) → readingNumber a < 256
-reading-number (Word w) = omega arith
-reading-number (NotRead r) = omega (arith, number-between r .1)
+pub describe-unpacks : (flags w places : ℕ) → DescribeUnpacks flags w places
+describe-unpacks flags w places = unpacks 0 (describeRefusal flags w places) (sum-fits (describe-handed flags w places))
 
-outcome-number : (o : Outcome) → outcomeNumber o < 256
-outcome-number Done = omega arith
-outcome-number (Refused r) = omega (arith, number-between r .1)
-
-pub print-unpacks : (flags w : ℕ) (room : List ℕ) → PrintUnpacks flags w room
-print-unpacks flags w room = unpacks _ _ (printed-number (printOf flags w (length room)))
+pub print-unpacks : (flags w : ℕ) (room : List ℕ) → PrintUnpacks flags w (length room)
+print-unpacks flags w room =
+    let a = printOf flags w (length room) in
+    unpacks (printedLength a) (printedRefusal a) (sum-fits (prints flags w room .hands-back))
 
 pub read-unpacks : (flags : ℕ) (t : Text) → ReadUnpacks flags t
-read-unpacks flags t = unpacks _ _ (reading-number (readOf flags t))
+read-unpacks flags t = unpacks (readingWord (readOf flags t)) (readingRefusal (readOf flags t)) (go (eqb (readNumber flags t) 8) refl)
+  where
+    go : (b : Bool) → eqb (readNumber flags t) 8 ≡ b → readMissing flags t < 256
+    go true e = let (w, s, f) = reads flags t .gives-8 .0 (eqb-true _ 8 e) .1 in sum-fits (reads flags t .hands-back w s)
+    go false e = let z = reads flags t .no-sum (eqb-false _ 8 e) in omega arith
+
+pub execute-unpacks : (m : Machine) (w : ℕ) → ExecuteUnpacks m w
+execute-unpacks m w = let o = refusalOf m w in rw (outcome-back o) (unpacks 0 o (rw (outcome-back o) at (sum-fits (executes m w .hands-back))))
 
 pub run-unpacks : (m : Machine) (ws : List ℕ) → RunUnpacks m ws
-run-unpacks m ws = unpacks _ _ (outcome-number (runOf m ws .outcome))
+run-unpacks m ws = unpacks (runOf m ws .count) (outcomeRefusal (runOf m ws .outcome)) (sum-fits (runs m ws .hands-back))
 
 -- ---- encode
 abbrev size? : ℕ → ℕ → Bool
@@ -111,11 +116,11 @@ module _ (bytes products : ℕ) (u0 u1 subtract : Bool) where
 -- an encode whose tests pass exactly where its arguments fit
 module _ (bytes products : ℕ) (i : Instruction) {Fits : Type 0}
     (passes : Fits → (size? bytes products ≡ true) × (inRange i ≡ true)) (passed : size? bytes products ≡ true → inRange i ≡ true → Fits) where
-  fitting : Fits → (w : ℕ) × Unpacks (encodeCall (sized bytes products i)) w 0 × OnlyWord i w
+  fitting : Fits → (w : ℕ) × Unpacks (encodeCall (sized bytes products i)) w 0 0 × OnlyWord i w
   fitting f =
       let (s, r) = passes f in
       let (w, e, o) = encodes i .word r in
-      (w, subst (λ a. Unpacks a w 0) (sym (rw s (ap packedEncoded e))) (unpacks w 0 (omega arith)), o)
+      (w, subst (λ a. Unpacks a w 0 0) (sym (rw s (ap packedEncoded e))) (unpacks w none (omega arith)), o)
 
   unfitting : (Fits → ⊥) → (s r : Bool) → size? bytes products ≡ s → inRange i ≡ r → encodeCall (cond s (some i) none) ≡ 11
   unfitting n false r p q = refl
@@ -207,6 +212,7 @@ describe-answers flags w fields =
       gives-1 = same 1 (omega arith) (omega arith) o;
       gives-7 = same 7 (omega arith) (omega arith) o;
       gives-8 = same 8 (omega arith) (omega arith) o;
+      hands-back = describe-handed flags w (length fields);
       gives-12 = (
         λ e. let (a, b) = gives-12 o .0 e in let k = known o a .count in (a, omega arith),
         λ c. let k = known o (c .0) .count in gives-12 o .1 (c .0, omega arith),
@@ -214,5 +220,5 @@ describe-answers flags w fields =
       refused = λ z. unchanged o z .0;
       numbers = fields-numbers o;
       rest = fields-rest o;
-      encoded = λ l e. subst (λ a. Unpacks a w 0) (sym (fields-encoded o l e)) (unpacks w 0 (omega arith));
+      encoded = λ l e. subst (λ a. Unpacks a w 0 0) (sym (fields-encoded o l e)) (unpacks w none (omega arith));
     }

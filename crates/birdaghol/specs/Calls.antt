@@ -1,39 +1,50 @@
--- What each exported function answers, as one number: value · 256 + refusal, where there is a value.
+-- What each exported function answers, as one number: value · 65,536 + missing · 256 + refusal (document 02, C-15).
 use mathlib.Core.Bool.{Bool, cond, _&&_, _||_}
 use mathlib.Core.List.{List}
 use mathlib.Core.Option.{Option, none, some}
 use Prim.Native.Nat.{ℕ, _+_, _*_}
 use lib.Dec.{eqb}
-use Rattle.isa.specs.Refusals.{number}
-use Rattle.isa.specs.Answers.{encodeOf, encodedNumber, encodedWord}
+use Rattle.isa.specs.Refusals.{refusalNumber, refusalMissing}
+use Rattle.isa.specs.Answers.{decodeRefusal, encodeOf, encodedRefusal, encodedWord}
 use Rattle.isa.specs.declared.Operation.{Operation}
 use Rattle.isa.specs.declared.Instruction.{Instruction}
 use Rattle.isa.specs.declared.Instruction.the-variants.{Predicated, Quarter, Zero}
 use Rattle.isa.specs.declared.Encoded.{Encoded}
+use Rattle.isa.specs.declared.Refusal.{Refusal}
 use Rattle.isa.specs.declared.Refusal.the-variants.{OutOfRange}
 use Rattle.isa.specs.Table.{source}
-use Rattle.text.specs.Printing.{printOf, printedNumber, printedLength}
+use Rattle.text.specs.Printing.{printOf, printedRefusal, printedLength}
 use Rattle.text.specs.declared.Printed.{Printed}
 use Rattle.text.specs.Spelling.{Text}
-use Rattle.reader.specs.Answers.{readOf, readingNumber, readingWord}
+use Rattle.reader.specs.Answers.{readOf, readingRefusal, readingWord}
 use Rattle.reader.specs.declared.Reading.{Reading}
 use Rattle.replay.specs.declared.Bench.{Bench}
+use Rattle.replay.specs.declared.Ended.{Ended}
 use Rattle.replay.specs.Machine.{Machine}
-use Rattle.replay.specs.Claims.{runNumber, runCount}
+use Rattle.replay.specs.Execution.{refusalOf, outcomeRefusal}
+use Rattle.replay.specs.Lists.{runOf}
 
-abbrev pub packed : ℕ → ℕ → ℕ
-packed value refusal = value * 256 + refusal
+abbrev pub packed : ℕ → ℕ → ℕ → ℕ
+packed value missing refusal = value * 65536 + missing * 256 + refusal
+
+-- a value beside a refusal, or beside none
+abbrev pub answer : ℕ → Option Refusal → ℕ
+answer value o = packed value (refusalMissing o) (refusalNumber o)
+
+-- ---- decode
+abbrev pub decodeCall : ℕ → ℕ → ℕ
+decodeCall flags w = answer 0 (decodeRefusal flags w)
 
 -- ---- print
 abbrev pub packedPrinted : Printed → ℕ
-packedPrinted a = packed (printedLength a) (printedNumber a)
+packedPrinted a = answer (printedLength a) (printedRefusal a)
 
 abbrev pub printCall : ℕ → ℕ → ℕ → ℕ
 printCall flags w room = packedPrinted (printOf flags w room)
 
 -- ---- read
 abbrev pub packedReading : Reading → ℕ
-packedReading a = packed (readingWord a) (readingNumber a)
+packedReading a = answer (readingWord a) (readingRefusal a)
 
 abbrev pub readCall : ℕ → Text → ℕ
 readCall flags t = packedReading (readOf flags t)
@@ -56,10 +67,10 @@ askedQuarter bytes products u0 u1 subtract tile first firstPair second secondPai
     Quarter (operation bytes products u0 u1 subtract) (record { 0 = tile }) (source firstPair first) (source secondPair second)
 
 abbrev pub packedEncoded : Encoded → ℕ
-packedEncoded a = packed (encodedWord a) (encodedNumber a)
+packedEncoded a = answer (encodedWord a) (encodedRefusal a)
 
 abbrev pub encodeCall : Option Instruction → ℕ
-encodeCall none = packed 0 (number OutOfRange)
+encodeCall none = answer 0 (some OutOfRange)
 encodeCall (some i) = packedEncoded (encodeOf i)
 
 abbrev pub predicatedCall : ℕ → ℕ → Bool → Bool → Bool → ℕ → ℕ → ℕ → ℕ → ℕ → ℕ
@@ -77,5 +88,12 @@ zeroCall mask = encodeCall (some (Zero mask))
 abbrev pub benchOf : ℕ → Bool → Bool → ℕ → Bench
 benchOf flags streaming zaOn vb = record { flags = flags; sm = streaming; za = zaOn; vb = vb }
 
+abbrev pub executeCall : Machine → ℕ → ℕ
+executeCall m w = answer 0 (refusalOf m w)
+
+-- the count stands beside a refusal too
+abbrev pub packedEnded : Ended → ℕ
+packedEnded e = answer (e .count) (outcomeRefusal (e .outcome))
+
 abbrev pub runCall : Machine → List ℕ → ℕ
-runCall m ws = packed (runCount m ws) (runNumber m ws)
+runCall m ws = packedEnded (runOf m ws)

@@ -5,31 +5,41 @@ use mathlib.Core.Logic.{_↔_, _⊎_}
 use mathlib.Core.List.{List}
 use Prim.Native.Nat.{ℕ, _/_, _%_, _^_, _≤_, _<_}
 use lib.ListN.{length, take, drop}
-use Rattle.isa.specs.Answers.{describe, decodeNumber}
-use Rattle.isa.specs.Claims.{OnlyWord}
+use Rattle.isa.specs.Answers.{describe, decodeNumber, decodeMissing}
+use Rattle.isa.specs.Claims.{HandsBack, OnlyWord}
 use Rattle.isa.specs.declared.Instruction.{Instruction}
 use Rattle.isa.specs.declared.Instruction.the-variants.{Zero}
 use Rattle.text.specs.Spelling.{Text}
-use Rattle.text.specs.Printing.{printNumber, printLength}
-use Rattle.reader.specs.Answers.{readNumber, readWord}
-use Rattle.replay.specs.Claims.{runNumber, runCount}
+use Rattle.text.specs.Printing.{printNumber, printMissing, printLength}
+use Rattle.reader.specs.Answers.{readNumber, readMissing, readWord}
+use Rattle.replay.specs.Claims.{executeNumber, executeMissing, runNumber, runMissing, runCount}
 use Rattle.replay.specs.Machine.{Machine}
-use Rattle.birdaghol.specs.Calls.{printCall, readCall, askedPredicated, askedQuarter, predicatedCall, quarterCall, zeroCall, runCall}
-use Rattle.birdaghol.specs.Fields.{numbersIn, fieldCount, describeCall, fieldsAfter, encodeNumbers}
+use Rattle.birdaghol.specs.Calls.{decodeCall, printCall, readCall, askedPredicated, askedQuarter, predicatedCall, quarterCall, zeroCall, executeCall, runCall}
+use Rattle.birdaghol.specs.Fields.{numbersIn, fieldCount, describeNumber, describeMissing, describeCall, fieldsAfter, encodeNumbers}
 
--- the value is the answer divided by 256, the refusal what is left over
-pub record Unpacks (answer value refusal : ℕ) : Type 0 where
-  pub value-is : answer / 256 ≡ value
+-- the refusal is the lowest byte, the missing flags are the next, and the value stands above
+pub record Unpacks (answer value missing refusal : ℕ) : Type 0 where
+  pub value-is : answer / 65536 ≡ value
+  pub missing-is : answer / 256 % 256 ≡ missing
   pub refusal-is : answer % 256 ≡ refusal
 
-abbrev pub PrintUnpacks : ℕ → ℕ → List ℕ → Type 0
-PrintUnpacks flags w room = Unpacks (printCall flags w (length room)) (printLength flags w (length room)) (printNumber flags w (length room))
+abbrev pub DecodeUnpacks : ℕ → ℕ → Type 0
+DecodeUnpacks flags w = Unpacks (decodeCall flags w) 0 (decodeMissing flags w) (decodeNumber flags w)
+
+abbrev pub DescribeUnpacks : ℕ → ℕ → ℕ → Type 0
+DescribeUnpacks flags w places = Unpacks (describeCall flags w places) 0 (describeMissing flags w places) (describeNumber flags w places)
+
+abbrev pub PrintUnpacks : ℕ → ℕ → ℕ → Type 0
+PrintUnpacks flags w room = Unpacks (printCall flags w room) (printLength flags w room) (printMissing flags w room) (printNumber flags w room)
 
 abbrev pub ReadUnpacks : ℕ → Text → Type 0
-ReadUnpacks flags t = Unpacks (readCall flags t) (readWord flags t) (readNumber flags t)
+ReadUnpacks flags t = Unpacks (readCall flags t) (readWord flags t) (readMissing flags t) (readNumber flags t)
+
+abbrev pub ExecuteUnpacks : Machine → ℕ → Type 0
+ExecuteUnpacks m w = Unpacks (executeCall m w) 0 (executeMissing m w) (executeNumber m w)
 
 abbrev pub RunUnpacks : Machine → List ℕ → Type 0
-RunUnpacks m ws = Unpacks (runCall m ws) (runCount m ws) (runNumber m ws)
+RunUnpacks m ws = Unpacks (runCall m ws) (runCount m ws) (runMissing m ws) (runNumber m ws)
 
 -- ---- encode: the arguments that are in range; there are as many tiles of a size as an element has bytes
 abbrev pub ElementSize : ℕ → Type 0
@@ -60,7 +70,7 @@ pub record QuarterFits (bytes products : ℕ) (u0 u1 : Bool) (tile first second 
 
 -- arguments that fit get the one word of their instruction and no refusal, others 11 alone
 pub record EncodeAnswers (answer : ℕ) (i : Instruction) (Fits : Type 0) : Type 0 where
-  pub word : Fits → (w : ℕ) × Unpacks answer w 0 × OnlyWord i w
+  pub word : Fits → (w : ℕ) × Unpacks answer w 0 0 × OnlyWord i w
   pub gives-11 : (answer ≡ 11) ↔ (Fits → ⊥)
 
 abbrev pub PredicatedAnswers : ℕ → ℕ → Bool → Bool → Bool → ℕ → ℕ → ℕ → ℕ → ℕ → Type 0
@@ -77,14 +87,15 @@ QuarterAnswers bytes products u0 u1 subtract tile first firstPair second secondP
 abbrev pub ZeroAnswers : ℕ → Type 0
 ZeroAnswers mask = EncodeAnswers (zeroCall mask) (Zero mask) (mask < 256)
 
--- ---- describe: which number, what stands in the fields, and that encode takes them back
+-- ---- describe: what it answers, what stands in the fields, and that encode takes them back
 pub record DescribeAnswers (flags w : ℕ) (fields : List ℕ) : Type 0 where
-  pub accepts : (describeCall flags w (length fields) ≡ 0) ↔ (decodeNumber flags w ≡ 0) × (fieldCount ≤ length fields)
-  pub gives-1 : (describeCall flags w (length fields) ≡ 1) ↔ (decodeNumber flags w ≡ 1)
-  pub gives-7 : (describeCall flags w (length fields) ≡ 7) ↔ (decodeNumber flags w ≡ 7)
-  pub gives-8 : (describeCall flags w (length fields) ≡ 8) ↔ (decodeNumber flags w ≡ 8)
-  pub gives-12 : (describeCall flags w (length fields) ≡ 12) ↔ (decodeNumber flags w ≡ 0) × (length fields < fieldCount)
-  pub refused : (describeCall flags w (length fields) ≡ 0 → ⊥) → fieldsAfter flags w fields ≡ fields
-  pub numbers : describeCall flags w (length fields) ≡ 0 → take fieldCount (fieldsAfter flags w fields) ≡ numbersIn (describe w)
+  pub accepts : (describeNumber flags w (length fields) ≡ 0) ↔ (decodeNumber flags w ≡ 0) × (fieldCount ≤ length fields)
+  pub gives-1 : (describeNumber flags w (length fields) ≡ 1) ↔ (decodeNumber flags w ≡ 1)
+  pub gives-7 : (describeNumber flags w (length fields) ≡ 7) ↔ (decodeNumber flags w ≡ 7)
+  pub gives-8 : (describeNumber flags w (length fields) ≡ 8) ↔ (decodeNumber flags w ≡ 8)
+  pub hands-back : HandsBack flags w (describeNumber flags w (length fields)) (describeMissing flags w (length fields))
+  pub gives-12 : (describeNumber flags w (length fields) ≡ 12) ↔ (decodeNumber flags w ≡ 0) × (length fields < fieldCount)
+  pub refused : (describeNumber flags w (length fields) ≡ 0 → ⊥) → fieldsAfter flags w fields ≡ fields
+  pub numbers : describeNumber flags w (length fields) ≡ 0 → take fieldCount (fieldsAfter flags w fields) ≡ numbersIn (describe w)
   pub rest : drop fieldCount (fieldsAfter flags w fields) ≡ drop fieldCount fields
-  pub encoded : w < 2 ^ 32 → describeCall flags w (length fields) ≡ 0 → Unpacks (encodeNumbers (fieldsAfter flags w fields)) w 0
+  pub encoded : w < 2 ^ 32 → describeNumber flags w (length fields) ≡ 0 → Unpacks (encodeNumbers (fieldsAfter flags w fields)) w 0 0

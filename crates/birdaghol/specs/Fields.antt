@@ -6,14 +6,15 @@ use mathlib.Core.Option.{Option, none, some}
 use Prim.Native.Nat.{ℕ}
 use lib.Dec.{eqb}
 use lib.ListN.{length, getD}
-use Rattle.isa.specs.Refusals.{refusalNumber, Test, firstFailure}
+use Rattle.isa.specs.Refusals.{refusalNumber, refusalMissing, Test, firstFailure}
 use Rattle.isa.specs.Table.{bit, isPair, register, elementBytes, productsOf}
 use Rattle.isa.specs.Answers.{describe, roomTests}
+use Rattle.isa.specs.declared.Refusal.{Refusal}
 use Rattle.isa.specs.declared.Operation.{Operation}
 use Rattle.isa.specs.declared.Instruction.{Instruction}
 use Rattle.isa.specs.declared.Instruction.the-variants.{Predicated, Quarter, Zero}
 use Rattle.text.specs.Printing.{filled}
-use Rattle.birdaghol.specs.Calls.{encodeCall, predicatedCall, quarterCall, zeroCall}
+use Rattle.birdaghol.specs.Calls.{answer, encodeCall, predicatedCall, quarterCall, zeroCall}
 
 -- element bytes, products, signs and subtract
 abbrev pub operationNumbers : Operation → List ℕ
@@ -38,13 +39,22 @@ fieldCount = 11
 abbrev pub describeTests : ℕ → ℕ → ℕ → List Test
 describeTests flags w places = roomTests flags w places (length (numbersIn (describe w)))
 
--- the answer, for so many places
+abbrev pub describeRefusal : ℕ → ℕ → ℕ → Option Refusal
+describeRefusal flags w places = firstFailure (describeTests flags w places)
+
+-- the paper's number and sum of the answer, for so many places, and the answer
+abbrev pub describeNumber : ℕ → ℕ → ℕ → ℕ
+describeNumber flags w places = refusalNumber (describeRefusal flags w places)
+
+abbrev pub describeMissing : ℕ → ℕ → ℕ → ℕ
+describeMissing flags w places = refusalMissing (describeRefusal flags w places)
+
 abbrev pub describeCall : ℕ → ℕ → ℕ → ℕ
-describeCall flags w places = refusalNumber (firstFailure (describeTests flags w places))
+describeCall flags w places = answer 0 (describeRefusal flags w places)
 
 -- the numbers at the start, and those after them as they were; refused, all of them as they were
 abbrev pub fieldsAfter : ℕ → ℕ → List ℕ → List ℕ
-fieldsAfter flags w fields = filled (firstFailure (describeTests flags w (length fields))) (numbersIn (describe w)) fields
+fieldsAfter flags w fields = filled (describeRefusal flags w (length fields)) (numbersIn (describe w)) fields
 
 -- what the encode of their kind answers, given these numbers; another kind has none
 abbrev pub place : List ℕ → ℕ → ℕ

@@ -1,20 +1,18 @@
-// The functions that C and Rust programs call. An answer with a value is value * 256 + refusal.
+// The functions that C and Rust programs call. Each answers value * 65536 + missing * 256 + refusal.
 ghost use mathlib.Core.Path.{_≡_};
-ghost use mathlib.Core.Option.{some};
+ghost use mathlib.Core.Option.{none, some};
 ghost use mathlib.Core.Bool.{cond};
 ghost use mathlib.Core.List.{[], _∷_, _++_};
 ghost use Prim.Native.Nat.{_≤_};
 ghost use lib.Dec.{ltb};
 ghost use lib.ListN.{length, drop};
-ghost use Rattle.isa.specs.Refusals.{number};
-ghost use Rattle.isa.specs.Answers.{decodeNumber};
 ghost use Rattle.text.specs.Printing.{roomAfter};
 ghost use Rattle.replay.specs.Machine.{on};
-ghost use Rattle.replay.specs.Execution.{after, outcomeNumber};
+ghost use Rattle.replay.specs.Execution.{after, outcomeRefusal};
 ghost use Rattle.replay.specs.Lists.{runLeft};
-ghost use Rattle.replay.specs.Claims.{executeNumber};
-ghost use Rattle.birdaghol.specs.Calls.{printCall, readCall, sized, operation, predicatedCall, quarterCall, zeroCall, encodeCall, benchOf, runCall};
+ghost use Rattle.birdaghol.specs.Calls.{answer, decodeCall, printCall, readCall, sized, operation, predicatedCall, quarterCall, zeroCall, encodeCall, benchOf, executeCall, runCall};
 ghost use Rattle.birdaghol.specs.Fields.{operationNumbers, numbersOf, fieldCount, describeCall, fieldsAfter};
+use isa::Checked;
 use isa::Decoded;
 use isa::Encoded;
 use isa::Instruction;
@@ -28,8 +26,10 @@ use replay::Bench;
 use replay::Outcome;
 use text::Printed;
 
-// A refusal takes the low byte of an answer, and the value stands above it.
-const ABOVE_REFUSAL: u64 = 256;
+// A refusal takes the lowest byte of an answer, the flags that it misses the next, and the value stands above them.
+const AT_MISSING: u64 = 256;
+
+const AT_VALUE: u64 = 65536;
 
 // How many numbers a description is, and the first of them, its kind.
 const FIELDS: usize = 11;
@@ -42,22 +42,25 @@ const ZERO: u32 = 3;
 
 // 0 where the word is an instruction with these features, else the refusal.
 #[no_mangle]
-pub extern "C" fn birdaghol_decode(flags: u32, word: u32) -> u32
-    ensures { λ r. ⌜ r ≡ decodeNumber flags word ⌝ }
+pub extern "C" fn birdaghol_decode(flags: u32, word: u32) -> u64
+    ensures { λ r. ⌜ r ≡ decodeCall flags word ⌝ }
 {
-    isa::decode_number(flags, word)
+    match isa::check(flags, word) {
+        Checked::Passed => 0,
+        Checked::Refused(r) => refused(r),
+    }
 }
 
 // Puts the description of a word at the start of fields: its kind, then the arguments of that kind's encode in their order.
 // 0, or the refusal, which leaves fields as they were; 12 where they have fewer places.
 #[no_mangle]
-pub extern "C" fn birdaghol_describe(flags: u32, word: u32, fields: &mut [u32]) -> u32
+pub extern "C" fn birdaghol_describe(flags: u32, word: u32, fields: &mut [u32]) -> u64
     ensures { λ r. ⌜ r ≡ describeCall flags word (length (now (fields .entry))) ⌝ }
     ensures { λ _. ⌜ now (fields .exit) ≡ fieldsAfter flags word (now (fields .entry)) ⌝ }
 {
     match isa::decode(flags, word) {
         Decoded::Accepted(i) => hand_out(i, fields),
-        Decoded::Refused(r) => isa::number(r),
+        Decoded::Refused(r) => refused(r),
     }
 }
 
@@ -68,8 +71,8 @@ pub extern "C" fn birdaghol_print(flags: u32, word: u32, room: &mut [u8]) -> u64
     ensures { λ _. ⌜ now (room .exit) ≡ roomAfter flags word (now (room .entry)) ⌝ }
 {
     match text::print(flags, word, room) {
-        Printed::Length(n) => n as u64 * ABOVE_REFUSAL,
-        Printed::Refused(r) => isa::number(r) as u64,
+        Printed::Length(n) => n as u64 * AT_VALUE,
+        Printed::Refused(r) => refused(r),
     }
 }
 
@@ -79,8 +82,8 @@ pub extern "C" fn birdaghol_read(flags: u32, line: &[u8]) -> u64
     ensures { λ r. ⌜ r ≡ readCall flags (now (line .entry)) ⌝ }
 {
     match reader::read(flags, line) {
-        Reading::Word(w) => w as u64 * ABOVE_REFUSAL,
-        Reading::Refused(r) => isa::number(r) as u64,
+        Reading::Word(w) => w as u64 * AT_VALUE,
+        Reading::Refused(r) => refused(r),
     }
 }
 
@@ -169,8 +172,8 @@ pub extern "C" fn birdaghol_execute(
     p: &[u8],
     za: &mut [u8],
     word: u32,
-) -> u32
-    ensures { λ r. ⌜ r ≡ executeNumber (on (benchOf flags streaming «za_on» vb) (now (z .entry)) (now (p .entry)) (now (za .entry))) word ⌝ }
+) -> u64
+    ensures { λ r. ⌜ r ≡ executeCall (on (benchOf flags streaming «za_on» vb) (now (z .entry)) (now (p .entry)) (now (za .entry))) word ⌝ }
     ensures { λ _. ⌜ now (za .exit) ≡ after (on (benchOf flags streaming «za_on» vb) (now (z .entry)) (now (p .entry)) (now (za .entry))) word .za ⌝ }
 {
     refusal_of(replay::execute(bench_of(flags, streaming, za_on, vb), z, p, za, word))
@@ -194,7 +197,7 @@ pub extern "C" fn birdaghol_run(
 {
     let ended = replay::run(bench_of(flags, streaming, za_on, vb), z, p, za, words);
     let outcome = ended.outcome;
-    ended.count as u64 * ABOVE_REFUSAL + refusal_of(outcome) as u64
+    ended.count as u64 * AT_VALUE + refusal_of(outcome)
 }
 
 // What the arguments say, as the kinds that they stand for.
@@ -228,13 +231,20 @@ fn bench_of(flags: u32, streaming: bool, za_on: bool, vb: usize) -> Bench
     }
 }
 
-// The refusal's number, 0 for none.
-fn refusal_of(o: Outcome) -> u32
-    ensures { λ r. ⌜ r ≡ outcomeNumber o ⌝ }
+// A refusal as it stands in an answer: its number, and above it what it hands back.
+fn refused(r: Refusal) -> u64
+    ensures { λ n. ⌜ n ≡ answer 0 (some r) ⌝ }
+{
+    isa::missing(r) as u64 * AT_MISSING + isa::number(r) as u64
+}
+
+// The same of an outcome, 0 for none.
+fn refusal_of(o: Outcome) -> u64
+    ensures { λ n. ⌜ n ≡ answer 0 (outcomeRefusal o) ⌝ }
 {
     match o {
         Outcome::Done => 0,
-        Outcome::Refused(r) => isa::number(r),
+        Outcome::Refused(r) => refused(r),
     }
 }
 
@@ -246,7 +256,7 @@ fn encode_sized(element_bytes: u32, products: u32, i: Instruction) -> u64
     if ((element_bytes == 4) | (element_bytes == 8)) & ((products == 2) | (products == 4)) {
         return encode(i);
     }
-    isa::number(Refusal::OutOfRange) as u64
+    refused(Refusal::OutOfRange)
 }
 
 // The word of a description, or the refusal.
@@ -254,18 +264,18 @@ fn encode(i: Instruction) -> u64
     ensures { λ r. ⌜ r ≡ encodeCall (some i) ⌝ }
 {
     match isa::encode(i) {
-        Encoded::Word(w) => w as u64 * ABOVE_REFUSAL,
-        Encoded::Refused(r) => isa::number(r) as u64,
+        Encoded::Word(w) => w as u64 * AT_VALUE,
+        Encoded::Refused(r) => refused(r),
     }
 }
 
 // The numbers of a description, if there is place for them.
-fn hand_out(i: Instruction, fields: &mut [u32]) -> u32
-    ensures { λ r. ⌜ r ≡ cond (ltb (length (now (fields .entry))) fieldCount) (number Refusal.Room) 0 ⌝ }
+fn hand_out(i: Instruction, fields: &mut [u32]) -> u64
+    ensures { λ r. ⌜ r ≡ answer 0 (cond (ltb (length (now (fields .entry))) fieldCount) (some Refusal.Room) none) ⌝ }
     ensures { λ _. ⌜ now (fields .exit) ≡ cond (ltb (length (now (fields .entry))) fieldCount) (now (fields .entry)) (numbersOf i ++ drop fieldCount (now (fields .entry))) ⌝ }
 {
     if fields.len() < FIELDS {
-        return isa::number(Refusal::Room);
+        return refused(Refusal::Room);
     }
     let numbers = numbers_of(i);
     copy(&numbers, fields);

@@ -1,5 +1,5 @@
-// Calls each exported function and writes its answers, value first and refusal second, and what it left in a buffer:
-// which argument is which, and that the boundary's numbers are as document 01 has them.
+// Calls each exported function and writes its answers, the value, the flags that are missing and the refusal, and what it
+// left in a buffer: which argument is which, and that the boundary's numbers are as documents 01 and 02 have them.
 use birdaghol::birdaghol_decode;
 use birdaghol::birdaghol_describe;
 use birdaghol::birdaghol_encode_predicated;
@@ -38,11 +38,12 @@ fn main() {
 }
 
 fn decodes() {
-    number(b"decode", birdaghol_decode(6, 0xA1C0_001F));
-    number(b"decode, a feature off", birdaghol_decode(4, 0xA1C0_001F));
-    number(b"decode, unlisted", birdaghol_decode(7, UNLISTED));
-    number(b"decode, 2-way", birdaghol_decode(8, UMOPS_TWO_WAY));
-    number(b"decode, without sme2", birdaghol_decode(7, UMOPS_TWO_WAY));
+    answer(b"decode", birdaghol_decode(6, 0xA1C0_001F));
+    answer(b"decode, without i16i64", birdaghol_decode(4, 0xA1C0_001F));
+    answer(b"decode, without both", birdaghol_decode(0, 0xA1C0_001F));
+    answer(b"decode, unlisted", birdaghol_decode(7, UNLISTED));
+    answer(b"decode, 2-way", birdaghol_decode(8, UMOPS_TWO_WAY));
+    answer(b"decode, without sme2", birdaghol_decode(7, UMOPS_TWO_WAY));
 }
 
 // Each kind, then the order of the refusals; a twelfth number stays.
@@ -56,7 +57,7 @@ fn describes() {
     described(b"unlisted", 15, UNLISTED);
     described(b"flags", 16, UMOPS_TWO_WAY);
     let mut short = [99u32; 10];
-    number(
+    answer(
         b"describe, ten places",
         birdaghol_describe(15, UMOPS_TWO_WAY, &mut short),
     );
@@ -66,7 +67,7 @@ fn describes() {
 fn described(name: &[u8], flags: u32, word: u32) {
     let mut fields = [99u32; 12];
     io::write_all(STDOUT_FILENO, b"describe, ");
-    number(name, birdaghol_describe(flags, word, &mut fields));
+    answer(name, birdaghol_describe(flags, word, &mut fields));
     numbers(&fields);
 }
 
@@ -92,6 +93,10 @@ fn prints() {
     io::write_all(STDOUT_FILENO, &exact);
     io::write_all(STDOUT_FILENO, b"\n");
     let mut short = [b'-'; 10];
+    answer(
+        b"print, without mop4",
+        birdaghol_print(2, 0x811E_8352, &mut exact),
+    );
     answer(b"print, no room", birdaghol_print(7, ZERO_ALL, &mut short));
     io::write_all(STDOUT_FILENO, &short);
     io::write_all(STDOUT_FILENO, b"\n");
@@ -180,24 +185,28 @@ fn encodes_zero() {
 
 fn executes(z: &[u8], p: &[u8]) {
     let mut za = [0u8; 256];
-    number(
+    answer(
         b"execute",
         birdaghol_execute(7, true, true, 16, z, p, &mut za, SUMOPA),
     );
     bytes(&za);
-    number(
+    answer(
         b"flags",
         birdaghol_execute(16, true, true, 16, z, p, &mut za, ZERO_ALL),
     );
-    number(
+    answer(
         b"a length of 15",
         birdaghol_execute(7, true, true, 15, z, p, &mut za, ZERO_ALL),
     );
-    number(
+    answer(
+        b"without sme",
+        birdaghol_execute(6, false, false, 16, z, p, &mut za, SUMOPA),
+    );
+    answer(
         b"streaming off",
         birdaghol_execute(7, false, true, 16, z, p, &mut za, SUMOPA),
     );
-    number(
+    answer(
         b"ZA off",
         birdaghol_execute(7, true, false, 16, z, p, &mut za, SUMOPA),
     );
@@ -207,7 +216,7 @@ fn executes(z: &[u8], p: &[u8]) {
 // SMOPA of halfwords that are -1: two products of 1.
 fn executes_two_way(z: &[u8], p: &[u8]) {
     let mut za = [0u8; 256];
-    number(
+    answer(
         b"execute, 2-way",
         birdaghol_execute(8, true, true, 16, z, p, &mut za, SMOPA_TWO_WAY),
     );
@@ -229,6 +238,10 @@ fn runs(z: &[u8], p: &[u8]) {
     );
     bytes(&za);
     answer(
+        b"run, without sme2",
+        birdaghol_run(7, true, true, 16, z, p, &mut za, &[SUMOPA, SMOPA_TWO_WAY]),
+    );
+    answer(
         b"Z and P exchanged",
         birdaghol_run(7, true, true, 16, p, z, &mut za, &words),
     );
@@ -243,16 +256,11 @@ fn runs(z: &[u8], p: &[u8]) {
 fn answer(name: &[u8], n: u64) {
     io::write_all(STDOUT_FILENO, name);
     io::write_all(STDOUT_FILENO, b": ");
-    io::print_decimal(STDOUT_FILENO, n / 256);
+    io::print_decimal(STDOUT_FILENO, n / 65536);
+    io::write_all(STDOUT_FILENO, b" ");
+    io::print_decimal(STDOUT_FILENO, n / 256 % 256);
     io::write_all(STDOUT_FILENO, b" ");
     io::print_decimal(STDOUT_FILENO, n % 256);
-    io::write_all(STDOUT_FILENO, b"\n");
-}
-
-fn number(name: &[u8], n: u32) {
-    io::write_all(STDOUT_FILENO, name);
-    io::write_all(STDOUT_FILENO, b": ");
-    io::print_decimal(STDOUT_FILENO, n as u64);
     io::write_all(STDOUT_FILENO, b"\n");
 }
 

@@ -10,7 +10,7 @@ use borrow.Author.Tests.{lt-ltb, le-ltb, eq-eqb, ne-eqb}
 use Rattle.isa.specs.Row.{matches}
 use Rattle.isa.specs.Refusals.{firstFailure}
 use Rattle.isa.specs.Table.{Feature, flag, SME, I16I64, MOP4, SME2, on, lacking, allFlags, Entry, table, described, inRange, wordFor}
-use Rattle.isa.specs.Answers.{lookup, describedBy, neededBy, describe, missing, decodeTests, roomTests, decided, decodeOf, encodeOf}
+use Rattle.isa.specs.Answers.{lookup, describedBy, neededBy, describe, missing, decodeTests, roomTests, decided, decodeOf, decodeRefusal, encodeOf}
 use Rattle.isa.specs.Claims.{AllOn}
 use Rattle.isa.specs.declared.Instruction.{Instruction}
 use Rattle.isa.specs.declared.Refusal.{Refusal}
@@ -42,6 +42,21 @@ on-lacking flags [] h = refl
 on-lacking flags (f ∷ fs) h =
     rw (h f (List·Memᴰ·head refl), on-lacking flags fs (λ g m. h g (List·Memᴰ·tail m)))
 
+-- with no flag on, every feature is lacking
+zero-off : (f : Feature) → on 0 f ≡ false
+zero-off SME = refl
+zero-off I16I64 = refl
+zero-off MOP4 = refl
+zero-off SME2 = refl
+
+pub lacking-most : (flags : ℕ) (fs : List Feature) → lacking flags fs ≤ lacking 0 fs
+lacking-most flags [] = omega arith
+lacking-most flags (f ∷ fs) = rw (zero-off f) (go (on flags f) (lacking-most flags fs))
+  where
+    go : (b : Bool) → lacking flags fs ≤ lacking 0 fs → cond b 0 (flag f) + lacking flags fs ≤ flag f + lacking 0 fs
+    go true h = omega arith
+    go false h = omega arith
+
 -- ---- decode
 pub decode-flags : (flags w : ℕ) → allFlags < flags → decodeOf flags w ≡ NotDecoded Flags
 unfolding decodeOf
@@ -53,23 +68,23 @@ decode-unlisted flags w h p = rw (le-ltb allFlags flags h, p)
 
 -- what test 8 leaves of a word that passed 1 and 7
 abbrev pub allowed : ℕ → Instruction → Decoded
-allowed lacks i = cond (eqb lacks 0) (Accepted i) (NotDecoded FeatureOff)
+allowed lacks i = cond (eqb lacks 0) (Accepted i) (NotDecoded (FeatureOff lacks))
 
 pub decode-listed : (flags w : ℕ) (e : Entry) → flags ≤ allFlags → lookup table w ≡ some e
     → decodeOf flags w ≡ allowed (lacking flags (e .needs)) (described e w)
 unfolding decodeOf describe missing
-decode-listed flags w e h p = rw (le-ltb allFlags flags h, p) (go (eqb (lacking flags (e .needs)) 0))
+decode-listed flags w e h p = rw (le-ltb allFlags flags h, p) (go (eqb (lacking flags (e .needs)) 0) (FeatureOff (lacking flags (e .needs))))
   where
-    go : (b : Bool) → decided (cond (not b) (some FeatureOff) none) (some (described e w)) ≡ cond b (Accepted (described e w)) (NotDecoded FeatureOff)
-    go true = refl
-    go false = refl
+    go : (b : Bool) (r : Refusal) → decided (cond (not b) (some r) none) (some (described e w)) ≡ cond b (Accepted (described e w)) (NotDecoded r)
+    go true r = refl
+    go false r = refl
 
 -- the same for a line that was found and what it lacks, nothing where there is none
 module _ (flags w : ℕ) {o : Option Entry} {k : ℕ} (h : flags ≤ allFlags) (p : o ≡ lookup table w) (q : k ≡ lacking flags (neededBy o)) where
-  pub decode-lacking : (k ≡ 0 → ⊥) → decodeOf flags w ≡ NotDecoded FeatureOff
+  pub decode-lacking : (k ≡ 0 → ⊥) → decodeOf flags w ≡ NotDecoded (FeatureOff (lacking flags (neededBy o)))
   decode-lacking d = go o (sym p) (λ e. d (q ∙ e))
     where
-      go : (o : Option Entry) → lookup table w ≡ o → (lacking flags (neededBy o) ≡ 0 → ⊥) → decodeOf flags w ≡ NotDecoded FeatureOff
+      go : (o : Option Entry) → lookup table w ≡ o → (lacking flags (neededBy o) ≡ 0 → ⊥) → decodeOf flags w ≡ NotDecoded (FeatureOff (lacking flags (neededBy o)))
       go none p d = absurd (d refl)
       go (some e) p d = decode-listed flags w e h p ∙ rw (ne-eqb _ 0 d)
 
@@ -109,6 +124,13 @@ pub decode-passed : (flags w : ℕ) (i : Instruction) → decodeOf flags w ≡ A
     → (firstFailure (decodeTests flags w) ≡ none) × (describe w ≡ some i)
 unfolding decodeOf
 decode-passed flags w i = decided-accepted (firstFailure (decodeTests flags w)) (describe w) i
+
+pub decode-refusal : (flags w : ℕ) → decodeRefusal flags w ≡ firstFailure (decodeTests flags w)
+decode-refusal flags w = go (decodeOf flags w) refl
+  where
+    go : (a : Decoded) → decodeOf flags w ≡ a → decodeRefusal flags w ≡ firstFailure (decodeTests flags w)
+    go (Accepted i) p = rw p (sym (decode-passed flags w i p .0))
+    go (NotDecoded r) p = rw p (sym (decode-refused flags w r p))
 
 -- and with a room for k of its bytes or numbers
 pub room-refused : (flags w n k : ℕ) (r : Refusal) → decodeOf flags w ≡ NotDecoded r → firstFailure (roomTests flags w n k) ≡ some r

@@ -141,11 +141,11 @@ module _ (flags : ℕ) where
   module _ (legal : flags ≤ allFlags) where
     accepted-line : (e : Entry) (w : ℕ) → List·Memᴰ e table → matches (e .row) w ≡ true → isAccepted flags w ≡ open? e
     accepted-line e w m h =
-        ap (λ d. eqb (decodedNumber d) 0) (decode-listed flags w e legal (lookup-found w m h)) ∙ go (open? e) _
+        ap (λ d. eqb (decodedNumber d) 0) (decode-listed flags w e legal (lookup-found w m h)) ∙ go (open? e) _ _
       where
-        go : (b : Bool) (i : Instruction) → eqb (decodedNumber (cond b (Accepted i) (NotDecoded FeatureOff))) 0 ≡ b
-        go true i = refl
-        go false i = refl
+        go : (b : Bool) (i : Instruction) (sum : ℕ) → eqb (decodedNumber (cond b (Accepted i) (NotDecoded (FeatureOff sum)))) 0 ≡ b
+        go true i sum = refl
+        go false i sum = refl
 
     accepted-open : (es : List Entry) → Some es → (w : ℕ) → isAcceptedOf es flags w ≡ isOpen es w
     accepted-open [] i w = nothing (isAccepted flags w)

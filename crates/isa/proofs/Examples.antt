@@ -1,17 +1,13 @@
 -- The examples of specs/Examples.antt come out as they say, by computation. Assumes nothing.
 use mathlib.Core.Path.{_≡_, refl}
+use mathlib.Core.List.{map}
 use Rattle.isa.specs.Table.{table}
 use Rattle.isa.specs.Answers.{describe, missing, decodeOf}
-use Rattle.isa.specs.Examples.{examples, allReplayed, acceptingFlags, allAccepting}
+use Rattle.isa.specs.Examples.{examples, replayed, missingSums, sumsOf}
 
-pub examples-hold : allReplayed examples ≡ examples
+pub examples-hold : map replayed examples ≡ examples
 unfolding decodeOf describe missing
 examples-hold = refl
 
-pub features-hold : allAccepting table ≡ acceptingFlags
+pub features-hold : map (sumsOf 16) table ≡ missingSums
 features-hold = refl
-
--- the features that a word lacks, summed
-pub missing-example : missing 0 0xA1C0001F ≡ 6
-unfolding missing
-missing-example = refl

@@ -4,6 +4,7 @@ pub mod Rows
 pub mod Lines
 pub mod Lookup
 pub mod Answers
+pub mod Sums
 pub mod Theorems
 pub mod Counts
 pub mod Examples

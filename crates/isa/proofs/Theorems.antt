@@ -1,22 +1,24 @@
--- Demand 2 for words and descriptions: the claims of specs/Claims.antt hold for every input. Assumes nothing.
+-- Demand 2, and C-15, for words and descriptions: the claims of specs/Claims.antt hold for every input. Assumes nothing.
 use mathlib.Core.Path.{_≡_, _∙_, sym, ap, refl, subst}
 use mathlib.Core.Bool.{Bool, true, false, cond}
 use mathlib.Core.Option.{Option, none, some}
 use Prim.Native.Nat.{ℕ, _≤_, _<_, _^_}
 use native.Mathlib.Omega.{arith}
-use lib.Dec.{eqb, ltb}
-use borrow.Author.Tests.{eq-eqb, ne-eqb, eqb-true, eqb-false, ltb-true, ltb-false}
+use lib.Dec.{eqb, ltb, leb}
+use borrow.Author.Tests.{eq-eqb, ne-eqb, eqb-true, eqb-false, ltb-true, ltb-false, leb-true}
 use Rattle.isa.specs.Table.{Entry, table, allFlags, lacking, described, entryOf, inRange, wordFor}
-use Rattle.isa.specs.Answers.{lookup, describedBy, neededBy, describe, missing, decodeOf, decodedNumber, decodeNumber, encodedNumber, encodedWord, encodeNumber}
-use Rattle.isa.specs.Claims.{Listed, FeaturesOn, Decodes, OnlyWord, Encodes, Describes, OneLine}
+use Rattle.isa.specs.Answers.{lookup, describedBy, neededBy, describe, missing, decodeTests, decodeOf, decodedNumber, decodeNumber, decodeMissing, encodedNumber, encodedWord, encodeNumber}
+use Rattle.isa.specs.Claims.{Listed, FeaturesOn, HandsBack, Decodes, OnlyWord, Encodes, Describes, OneLine}
 use Rattle.isa.specs.declared.Instruction.{Instruction}
 use Rattle.isa.specs.declared.Refusal.the-variants.{Unlisted, FeatureOff}
 use Rattle.isa.specs.declared.Decoded.the-variants.{Accepted, Refused as NotDecoded}
 use Rattle.isa.specs.declared.Encoded.the-variants.{Word}
-use Rattle.isa.proofs.Lines.{in-table, described-range, described-word, word-described}
+use Rattle.isa.proofs.Tests.{every-all}
+use Rattle.isa.proofs.Lines.{checked, at-line, in-table, described-range, described-word, word-described}
 use Rattle.isa.proofs.Lookup.{lookup-found, lookup-some, lookup-none}
+use Rattle.isa.proofs.Sums.{handed, decode-fair}
 use Rattle.isa.proofs.Lookup.{one-line as lookup-one-line}
-use Rattle.isa.proofs.Answers.{lacking-none, on-lacking, decode-flags, decode-unlisted, decode-listed, decode-passed, describe-found, encode-in-range, encode-out-of-range, encoded}
+use Rattle.isa.proofs.Answers.{lacking-none, on-lacking, lacking-most, decode-flags, decode-unlisted, decode-listed, decode-passed, decode-refusal, describe-found, encode-in-range, encode-out-of-range, encoded}
 
 -- ---- what is found, in the claims' terms
 listed-found : (w : ℕ) → Listed w → (e : Entry) × (lookup table w ≡ some e)
@@ -52,10 +54,14 @@ accepted-when flags w h l f =
 unlisted-when : (flags w : ℕ) → flags ≤ allFlags → (Listed w → ⊥) → decodeOf flags w ≡ NotDecoded Unlisted
 unlisted-when flags w h l = decode-unlisted flags w h (not-listed w l)
 
-feature-when : (flags w : ℕ) → flags ≤ allFlags → Listed w → (FeaturesOn flags w → ⊥) → decodeOf flags w ≡ NotDecoded FeatureOff
+missing-found : (flags w : ℕ) (e : Entry) → lookup table w ≡ some e → missing flags w ≡ lacking flags (e .needs)
+unfolding missing
+missing-found flags w e p = rw p
+
+feature-when : (flags w : ℕ) → flags ≤ allFlags → Listed w → (FeaturesOn flags w → ⊥) → decodeOf flags w ≡ NotDecoded (FeatureOff (missing flags w))
 feature-when flags w h l f =
     let (e, p) = listed-found w l in
-    decode-listed flags w e h p ∙ rw (ne-eqb _ 0 (λ z. f (lacking-features flags w e p z)))
+    decode-listed flags w e h p ∙ rw (missing-found flags w e p, ne-eqb _ 0 (λ z. f (lacking-features flags w e p z)))
 
 -- the four cases, by the number that decode gives
 data Case (flags w : ℕ) : ℕ → Type 0 where
@@ -63,6 +69,10 @@ data Case (flags w : ℕ) : ℕ → Type 0 where
   gives-1 : allFlags < flags → Case flags w 1
   gives-7 : flags ≤ allFlags → (Listed w → ⊥) → Case flags w 7
   gives-8 : flags ≤ allFlags → Listed w → (FeaturesOn flags w → ⊥) → Case flags w 8
+
+-- no line needs more than there is
+abbrev few? : Entry → Bool
+few? e = leb (lacking 0 (e .needs)) allFlags
 
 module _ (flags w : ℕ) where
   abbrev given : ℕ
@@ -116,6 +126,19 @@ module _ (flags w : ℕ) where
       go none p = refl
       go (some e) p = features-lacking flags w e p h
 
+  missing-most : missing flags w ≤ allFlags
+  unfolding missing
+  missing-most = go (lookup table w) refl
+    where
+      go : (o : Option Entry) → lookup table w ≡ o → lacking flags (neededBy o) ≤ allFlags
+      go none p = omega arith
+      go (some e) p =
+          let few : lacking 0 (e .needs) ≤ allFlags = leb-true _ _ (at-line few? table (every-all (checked few? table) refl) (lookup-some table e w p .0)) in
+          omega (arith, lacking-most flags (e .needs))
+
+  hands-back : HandsBack flags w given (decodeMissing flags w)
+  hands-back = rw (decode-refusal flags w) (handed flags w (decodeTests flags w) (decode-fair flags w))
+
 -- which words decode accepts, and what the others get
 pub decodes : (flags w : ℕ) → Decodes flags w
 decodes flags w =
@@ -126,6 +149,8 @@ decodes flags w =
       gives-8 = (λ p. is-8 flags w (at flags w p), λ c. ap decodedNumber (feature-when flags w (c .0) (c .1) (c .2)));
       describes = λ i p. decode-passed flags w i p .1;
       missing-none = (none-missing flags w, missing-none flags w);
+      missing-most = missing-most flags w;
+      hands-back = hands-back flags w;
     }
 
 -- ---- descriptions and their words

@@ -1,15 +1,17 @@
--- What decode and encode answer, by the table (document 01, "Encodings" and "Refusal numbers").
+-- What decode and encode answer, by the table (document 01, "Encodings" and "Refusal numbers", and document 02, C-15).
 use mathlib.Core.Bool.{Bool, true, false, not, cond}
 use mathlib.Core.List.{List, [], _∷_, _++_}
 use mathlib.Core.Option.{Option, none, some}
 use Prim.Native.Nat.{ℕ}
 use lib.Dec.{eqb, ltb}
 use Rattle.isa.specs.Row.{matches}
-use Rattle.isa.specs.Refusals.{number, Test, firstFailure}
+use Rattle.isa.specs.Refusals.{refusalNumber, refusalMissing, Test, firstFailure}
 use Rattle.isa.specs.Table.{Feature, Entry, table, allFlags, lacking, described, inRange, wordFor}
 use Rattle.isa.specs.declared.Instruction.{Instruction}
 use Rattle.isa.specs.declared.Refusal.{Refusal}
 use Rattle.isa.specs.declared.Refusal.the-variants.{Flags, Unlisted, FeatureOff, OutOfRange, Room}
+use Rattle.isa.specs.declared.Checked.{Checked}
+use Rattle.isa.specs.declared.Checked.the-variants.{Passed, Refused as NotPassed}
 use Rattle.isa.specs.declared.Decoded.{Decoded}
 use Rattle.isa.specs.declared.Decoded.the-variants.{Accepted, Refused as NotDecoded}
 use Rattle.isa.specs.declared.Encoded.{Encoded}
@@ -48,7 +50,7 @@ flagsTest flags = record { fails = ltb allFlags flags; gives = Flags }
 abbrev pub listingTests : ℕ → ℕ → List Test
 listingTests flags w =
     record { fails = absent (describe w); gives = Unlisted }
-    ∷ record { fails = not (eqb (missing flags w) 0); gives = FeatureOff }
+    ∷ record { fails = not (eqb (missing flags w) 0); gives = FeatureOff (missing flags w) }
     ∷ []
 
 abbrev pub decodeTests : ℕ → ℕ → List Test
@@ -64,25 +66,46 @@ decided (some r) d = NotDecoded r
 decided none (some i) = Accepted i
 decided none none = NotDecoded Unlisted
 
--- the paper's number of an answer: 0 where nothing is refused
-abbrev pub decodedNumber : Decoded → ℕ
-decodedNumber (Accepted i) = 0
-decodedNumber (NotDecoded r) = number r
-
 unfoldable pub decodeOf : ℕ → ℕ → Decoded
 decodeOf flags w = decided (firstFailure (decodeTests flags w)) (describe w)
 
+-- the refusal of an answer, and what the paper has of it: its number, and the sum that it hands back
+abbrev pub decodedRefusal : Decoded → Option Refusal
+decodedRefusal (Accepted i) = none
+decodedRefusal (NotDecoded r) = some r
+
+abbrev pub decodedNumber : Decoded → ℕ
+decodedNumber a = refusalNumber (decodedRefusal a)
+
+abbrev pub decodedMissing : Decoded → ℕ
+decodedMissing a = refusalMissing (decodedRefusal a)
+
+-- and of decode's answer
+abbrev pub decodeRefusal : ℕ → ℕ → Option Refusal
+decodeRefusal flags w = decodedRefusal (decodeOf flags w)
+
 abbrev pub decodeNumber : ℕ → ℕ → ℕ
 decodeNumber flags w = decodedNumber (decodeOf flags w)
+
+abbrev pub decodeMissing : ℕ → ℕ → ℕ
+decodeMissing flags w = decodedMissing (decodeOf flags w)
+
+-- check: that refusal alone
+abbrev pub checkedRefusal : Checked → Option Refusal
+checkedRefusal Passed = none
+checkedRefusal (NotPassed r) = some r
 
 -- ---- encode: test 11
 unfoldable pub encodeOf : Instruction → Encoded
 encodeOf i = cond (inRange i) (Word (wordFor i)) (NotEncoded OutOfRange)
 
--- the paper's number and value of an answer
+-- the refusal of an answer, and the paper's number and value
+abbrev pub encodedRefusal : Encoded → Option Refusal
+encodedRefusal (Word w) = none
+encodedRefusal (NotEncoded r) = some r
+
 abbrev pub encodedNumber : Encoded → ℕ
-encodedNumber (Word w) = 0
-encodedNumber (NotEncoded r) = number r
+encodedNumber a = refusalNumber (encodedRefusal a)
 
 abbrev pub encodedWord : Encoded → ℕ
 encodedWord (Word w) = w

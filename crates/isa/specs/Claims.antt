@@ -1,4 +1,5 @@
--- What demand 2 asks of words and descriptions, as statements; proofs/Theorems.antt proves each for every input.
+-- What demand 2, and document 02, C-15, ask of words and descriptions, as statements; proofs/Theorems.antt proves each for
+-- every input.
 use mathlib.Core.Path.{_≡_}
 use mathlib.Core.Bool.{true, false, cond}
 use mathlib.Core.Logic.{_↔_}
@@ -8,7 +9,7 @@ use Prim.Native.Nat.{ℕ, _≤_, _<_, _^_}
 use lib.ListN.{length}
 use Rattle.isa.specs.Row.{matches}
 use Rattle.isa.specs.Table.{Feature, Entry, table, allFlags, on, entryOf, inRange}
-use Rattle.isa.specs.Answers.{describe, missing, decodeOf, decodeNumber, encodeOf, encodeNumber, encodeWord}
+use Rattle.isa.specs.Answers.{describe, missing, decodeOf, decodeNumber, decodeMissing, encodeOf, encodeNumber, encodeWord}
 use Rattle.isa.specs.declared.Instruction.{Instruction}
 use Rattle.isa.specs.declared.Decoded.the-variants.{Accepted}
 use Rattle.isa.specs.declared.Encoded.the-variants.{Word}
@@ -25,7 +26,14 @@ AllOn flags fs = (f : Feature) → List·Memᴰ f fs → on flags f ≡ true
 abbrev pub FeaturesOn : ℕ → ℕ → Type 0
 FeaturesOn flags w = (e : Entry) → List·Memᴰ e table → matches (e .row) w ≡ true → AllOn flags (e .needs)
 
--- which words decode accepts, and which number the others get
+-- C-15: beside an answer's number stands a sum of flags; w is the word that the answer is about. 8 comes with exactly the
+-- flags that w needs and that are off, and any other number with none.
+pub record HandsBack (flags w number sum : ℕ) : Type 0 where
+  pub beside-8 : number ≡ 8 → sum ≡ missing flags w
+  pub never-0 : number ≡ 8 → 0 < sum
+  pub beside-others : (number ≡ 8 → ⊥) → sum ≡ 0
+
+-- which words decode accepts, and what the others get
 pub record Decodes (flags w : ℕ) : Type 0 where
   pub accepts : (decodeNumber flags w ≡ 0) ↔ (flags ≤ allFlags) × Listed w × FeaturesOn flags w
   pub gives-1 : (decodeNumber flags w ≡ 1) ↔ (allFlags < flags)
@@ -33,6 +41,8 @@ pub record Decodes (flags w : ℕ) : Type 0 where
   pub gives-8 : (decodeNumber flags w ≡ 8) ↔ (flags ≤ allFlags) × Listed w × (FeaturesOn flags w → ⊥)
   pub describes : (i : Instruction) → decodeOf flags w ≡ Accepted i → describe w ≡ some i
   pub missing-none : (missing flags w ≡ 0) ↔ FeaturesOn flags w
+  pub missing-most : missing flags w ≤ allFlags
+  pub hands-back : HandsBack flags w (decodeNumber flags w) (decodeMissing flags w)
 
 -- w is the only word that is i
 pub record OnlyWord (i : Instruction) (w : ℕ) : Type 0 where

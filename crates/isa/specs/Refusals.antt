@@ -1,4 +1,5 @@
--- Refusals: their numbers, and the order of tests (document 01, "Refusal numbers", and document 02, C-11).
+-- Refusals: their numbers, what 8 hands back, and the order of tests (document 01, "Refusal numbers", and document 02, C-11
+-- and C-15).
 use mathlib.Core.Bool.{Bool, cond}
 use mathlib.Core.List.{List, [], _∷_}
 use mathlib.Core.Option.{Option, none, some}
@@ -14,17 +15,37 @@ number PLength = 4
 number ZaLength = 5
 number ListLength = 6
 number Unlisted = 7
-number FeatureOff = 8
+number (FeatureOff sum) = 8
 number StreamingOff = 9
 number ZaOff = 10
 number OutOfRange = 11
 number Room = 12
 number NotText = 13
 
--- 0 where there is none
+-- the sum of flags that a refusal hands back; 0 beside any number but 8
+abbrev pub missingIn : Refusal → ℕ
+missingIn Flags = 0
+missingIn VectorLength = 0
+missingIn ZLength = 0
+missingIn PLength = 0
+missingIn ZaLength = 0
+missingIn ListLength = 0
+missingIn Unlisted = 0
+missingIn (FeatureOff sum) = sum
+missingIn StreamingOff = 0
+missingIn ZaOff = 0
+missingIn OutOfRange = 0
+missingIn Room = 0
+missingIn NotText = 0
+
+-- both are 0 where there is none
 abbrev pub refusalNumber : Option Refusal → ℕ
 refusalNumber none = 0
 refusalNumber (some r) = number r
+
+abbrev pub refusalMissing : Option Refusal → ℕ
+refusalMissing none = 0
+refusalMissing (some r) = missingIn r
 
 -- a test that input may fail, and the refusal that it then gets
 pub record Test : Type 0 where

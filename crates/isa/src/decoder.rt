@@ -6,8 +6,9 @@ ghost use lib.Dec.{eqb, ltb};
 ghost use Prim.Native.Nat.{_/_, _%_, _<_, _≤_};
 ghost use Rattle.isa.specs.Row.{matches, fieldOf};
 ghost use Rattle.isa.specs.Table.{predicated32, predicated64, quarter32, quarter64, zero8, predicatedTwoWay, quarterTwoWay, table, allFlags, lacking as lackingOf, predicated, quarter, described, operationOfFields, source, elementBytes, tilesOf};
-ghost use Rattle.isa.specs.Answers.{lookup, describedBy, neededBy, decided, decodedNumber, decodeNumber, decodeOf};
-ghost use Rattle.isa.specs.Lines.{entryFor, listedNumber};
+ghost use Rattle.isa.specs.Answers.{lookup, describedBy, neededBy, decided, decodedNumber, decodedMissing, decodeOf, decodeRefusal, decodeNumber, decodeMissing, checkedRefusal};
+ghost use Rattle.isa.specs.Lines.{entryFor, checkedLine};
+use crate::Checked;
 use crate::Decoded;
 use crate::Instruction;
 use crate::Line;
@@ -18,7 +19,6 @@ use crate::Shape;
 use crate::Source;
 use crate::Tile;
 use crate::Vector;
-use crate::numbers::number;
 use crate::sizes::element_bytes;
 
 // The features' flags.
@@ -44,29 +44,30 @@ pub fn flags_legal(flags: u32) -> bool
 pub fn decode(flags: u32, word: u32) -> Decoded
     ensures { λ r. ⌜ r ≡ decodeOf flags word ⌝ }
     ensures { λ r. ⌜ decodedNumber r ≡ decodeNumber flags word ⌝ }
+    ensures { λ r. ⌜ decodedMissing r ≡ decodeMissing flags word ⌝ }
 {
     if !flags_legal(flags) {
         return Decoded::Refused(Refusal::Flags);
     }
     let line = line_of(word);
     if lacking(flags, line) != 0 {
-        return Decoded::Refused(Refusal::FeatureOff);
+        return Decoded::Refused(feature_off(flags, line));
     }
     describe(line, word)
 }
 
-// The number of that answer, 0 where the word is an instruction. No description is made, which would go through memory.
-pub fn decode_number(flags: u32, word: u32) -> u32
-    ensures { λ r. ⌜ r ≡ decodeNumber flags word ⌝ }
+// The refusal of that answer, if it has one. No description is made, which would go through memory.
+pub fn check(flags: u32, word: u32) -> Checked
+    ensures { λ r. ⌜ checkedRefusal r ≡ decodeRefusal flags word ⌝ }
 {
     if !flags_legal(flags) {
-        return number(Refusal::Flags);
+        return Checked::Refused(Refusal::Flags);
     }
     let line = line_of(word);
     if lacking(flags, line) != 0 {
-        return number(Refusal::FeatureOff);
+        return Checked::Refused(feature_off(flags, line));
     }
-    listed_number(line)
+    check_line(line)
 }
 
 // The line that a word matches. Most words differ from every line in the four bits that are tested first.
@@ -100,6 +101,15 @@ fn line_of(word: u32) -> Line
     Line::Unlisted
 }
 
+// Refusal 8 of a line, with the sum of what it misses.
+fn feature_off(flags: u32, line: Line) -> Refusal
+    ensures { λ r. ⌜ r ≡ Refusal.FeatureOff (lackingOf flags (neededBy (entryFor line))) ⌝ }
+{
+    Refusal::FeatureOff {
+        missing: lacking(flags, line),
+    }
+}
+
 // The sum of the features that a line needs and flags lack.
 fn lacking(flags: u32, line: Line) -> u32
     ensures { λ r. ⌜ r ≡ lackingOf flags (neededBy (entryFor line)) ⌝ }
@@ -116,19 +126,19 @@ fn lacking(flags: u32, line: Line) -> u32
     }
 }
 
-// 0 for a line of the table.
-fn listed_number(line: Line) -> u32
-    ensures { λ r. ⌜ r ≡ listedNumber (entryFor line) ⌝ }
+// Test 7, of the line that a word matches.
+fn check_line(line: Line) -> Checked
+    ensures { λ r. ⌜ r ≡ checkedLine (entryFor line) ⌝ }
 {
     match line {
-        Line::Predicated32 => 0,
-        Line::Predicated64 => 0,
-        Line::Quarter32 => 0,
-        Line::Quarter64 => 0,
-        Line::Zero => 0,
-        Line::PredicatedTwoWay => 0,
-        Line::QuarterTwoWay => 0,
-        Line::Unlisted => number(Refusal::Unlisted),
+        Line::Predicated32 => Checked::Passed,
+        Line::Predicated64 => Checked::Passed,
+        Line::Quarter32 => Checked::Passed,
+        Line::Quarter64 => Checked::Passed,
+        Line::Zero => Checked::Passed,
+        Line::PredicatedTwoWay => Checked::Passed,
+        Line::QuarterTwoWay => Checked::Passed,
+        Line::Unlisted => Checked::Refused(Refusal::Unlisted),
     }
 }
 

@@ -5,13 +5,14 @@ mod numbers;
 mod sizes;
 
 pub use decoder::ALL_FLAGS;
+pub use decoder::check;
 pub use decoder::decode;
-pub use decoder::decode_number;
 pub use decoder::flags_legal;
 pub use decoder::source_of;
 pub use encoder::encode;
 pub use encoder::is_pair;
 pub use encoder::register_of;
+pub use numbers::missing;
 pub use numbers::number;
 pub use sizes::element_bytes;
 pub use sizes::products;
@@ -78,7 +79,8 @@ pub enum Line {
     Unlisted,
 }
 
-// Why input is refused; `number` gives each its number, and each function says which it tests, and in which order.
+// Why input is refused; `number` gives each its number, and each function says which it tests, and in which order. A word
+// that needs a feature that is off is refused with the sum of the flags that it misses.
 pub enum Refusal {
     Flags,
     VectorLength,
@@ -87,12 +89,18 @@ pub enum Refusal {
     ZaLength,
     ListLength,
     Unlisted,
-    FeatureOff,
+    FeatureOff { missing: u32 },
     StreamingOff,
     ZaOff,
     OutOfRange,
     Room,
     NotText,
+}
+
+// What comes of tests alone.
+pub enum Checked {
+    Passed,
+    Refused(Refusal),
 }
 
 pub enum Decoded {

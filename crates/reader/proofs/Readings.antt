@@ -10,7 +10,7 @@ use lib.ListN.{length, take}
 use borrow.Author.Tests.{lt-ltb, le-ltb, ltb-true, ltb-false}
 use Rattle.isa.specs.Table.{Feature, SME, I16I64, MOP4, SME2, on, allFlags}
 use Rattle.isa.specs.Claims.{FeaturesOn}
-use Rattle.isa.specs.Answers.{describe, missing, decided, decodedNumber, decodeOf, decodeNumber, encodeOf}
+use Rattle.isa.specs.Answers.{describe, missing, decided, decodedRefusal, decodeOf, decodeRefusal, encodeOf}
 use Rattle.isa.specs.declared.Instruction.{Instruction}
 use Rattle.isa.specs.declared.Refusal.{Refusal}
 use Rattle.isa.specs.declared.Refusal.the-variants.{Flags, FeatureOff, NotText}
@@ -31,7 +31,7 @@ use Rattle.text.proofs.Theorems.{prints}
 use Rattle.reader.specs.declared.Reading.{Reading}
 use Rattle.reader.specs.declared.Reading.the-variants.{Word, Refused}
 use Rattle.reader.specs.Answers.{sameText, hasText, wordWith, answered, readOf}
-use Rattle.reader.specs.Guess.{guessOf, verdict}
+use Rattle.reader.specs.Guess.{guessOf, wordUnless, verdict}
 use Rattle.reader.proofs.Words.{text-had, guessed, with-some, with-none}
 
 -- ---- the ways that read goes
@@ -43,22 +43,26 @@ pub read-none : (flags : ℕ) (t : Text) → flags ≤ allFlags → wordWith t �
 unfolding readOf
 read-none flags t h p = rw (le-ltb allFlags flags h, p)
 
-pub read-some : (flags w : ℕ) (t : Text) → flags ≤ allFlags → wordWith t ≡ some w → readOf flags t ≡ cond (eqb (missing flags w) 0) (Word w) (Refused FeatureOff)
-unfolding readOf
-read-some flags w t h p = rw (le-ltb allFlags flags h, p) (go (eqb (missing flags w) 0))
-  where
-    go : (b : Bool) → answered (cond (not b) (some FeatureOff) none) (some w) ≡ cond b (Word w) (Refused FeatureOff)
-    go true = refl
-    go false = refl
+-- what test 8 leaves of a word that has the line
+abbrev pub allowed : ℕ → ℕ → Reading
+allowed lacks w = cond (eqb lacks 0) (Word w) (Refused (FeatureOff lacks))
 
--- a listed word's number with legal flags tells whether it lacks a feature
-allowed-is : (flags w : ℕ) (i : Instruction) → flags ≤ allFlags → describe w ≡ some i → eqb (decodeNumber flags w) 0 ≡ eqb (missing flags w) 0
-unfolding decodeOf
-allowed-is flags w i h d = rw (le-ltb allFlags flags h, d) (go (eqb (missing flags w) 0))
+pub read-some : (flags w : ℕ) (t : Text) → flags ≤ allFlags → wordWith t ≡ some w → readOf flags t ≡ allowed (missing flags w) w
+unfolding readOf
+read-some flags w t h p = rw (le-ltb allFlags flags h, p) (go (eqb (missing flags w) 0) (FeatureOff (missing flags w)))
   where
-    go : (b : Bool) → eqb (decodedNumber (decided (cond (not b) (some FeatureOff) none) (some i))) 0 ≡ b
-    go true = refl
-    go false = refl
+    go : (b : Bool) (r : Refusal) → answered (cond (not b) (some r) none) (some w) ≡ cond b (Word w) (Refused r)
+    go true r = refl
+    go false r = refl
+
+-- decode's refusal of a listed word with legal flags is test 8's alone
+allowed-is : (flags w : ℕ) (i : Instruction) → flags ≤ allFlags → describe w ≡ some i → wordUnless (decodeRefusal flags w) w ≡ allowed (missing flags w) w
+unfolding decodeOf
+allowed-is flags w i h d = rw (le-ltb allFlags flags h, d) (go (eqb (missing flags w) 0) (FeatureOff (missing flags w)))
+  where
+    go : (b : Bool) (r : Refusal) → wordUnless (decodedRefusal (decided (cond (not b) (some r) none) (some i))) w ≡ cond b (Word w) (Refused r)
+    go true r = refl
+    go false r = refl
 
 -- ---- no other word than the guessed one has the line
 pub guess-refused : (flags : ℕ) (t : Text) (r : Refusal) → flags ≤ allFlags → encodeOf (guessOf t) ≡ NotEncoded r → Refused NotText ≡ readOf flags t
@@ -66,16 +70,16 @@ guess-refused flags t r h e =
     sym (read-none flags t h (with-none t (λ v k p. let g = guessed v t k p in let z : _≡_ {A = ℕ} 0 1 = cc in omega arith)))
 
 pub guess-word : (flags w : ℕ) (t : Text) → flags ≤ allFlags → encodeOf (guessOf t) ≡ Encoding w
-    → verdict w (hasText w t) (eqb (decodeNumber flags w) 0) ≡ readOf flags t
+    → verdict w (hasText w t) (decodeRefusal flags w) ≡ readOf flags t
 guess-word flags w t h e = go (hasText w t) refl
   where
     fits : w < 2 ^ 32
     fits = let (r, k) = encoded (guessOf t) w e in rw k (word-described (guessOf t) r .fits)
 
-    go : (b : Bool) → hasText w t ≡ b → verdict w b (eqb (decodeNumber flags w) 0) ≡ readOf flags t
+    go : (b : Bool) → hasText w t ≡ b → verdict w b (decodeRefusal flags w) ≡ readOf flags t
     go true p =
         let (i, d) = text-had w t p .0 in
-        rw (allowed-is flags w i h d) (sym (read-some flags w t h (with-some w t fits p)))
+        allowed-is flags w i h d ∙ sym (read-some flags w t h (with-some w t fits p))
     go false p =
         sym (read-none flags t h
         (with-none t (λ v k q.
@@ -87,7 +91,7 @@ guess-word flags w t h e = go (hasText w t) refl
 
 -- so read's answer can be computed, without the search
 abbrev byEncoded : ℕ → Text → Encoded → Reading
-byEncoded flags t (Encoding w) = verdict w (hasText w t) (eqb (decodeNumber flags w) 0)
+byEncoded flags t (Encoding w) = verdict w (hasText w t) (decodeRefusal flags w)
 byEncoded flags t (NotEncoded r) = Refused NotText
 
 abbrev pub computed : ℕ → Text → Reading

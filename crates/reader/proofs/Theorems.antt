@@ -1,4 +1,4 @@
--- What document 02 (C-11, C-12) asks of a read: the claims of specs/Claims.antt hold for every flags and line. Assumes nothing.
+-- What document 02 (C-11, C-12, C-15) asks of a read: the claims of specs/Claims.antt hold for every flags and line. Assumes nothing.
 use mathlib.Core.Path.{_≡_, _∙_, sym, ap, refl, subst}
 use mathlib.Core.Bool.{Bool, true, false}
 use mathlib.Core.List.{List, [], _∷_}
@@ -9,13 +9,14 @@ use lib.Dec.{eqb, ltb}
 use lib.ListN.{length, take}
 use borrow.Author.Tests.{eq-eqb, ne-eqb, eqb-true, eqb-false, lt-ltb, ltb-true, ltb-false}
 use Rattle.isa.specs.Table.{allFlags, wordFor}
-use Rattle.isa.specs.Claims.{FeaturesOn}
+use Rattle.isa.specs.Claims.{FeaturesOn, HandsBack}
 use Rattle.isa.specs.Answers.{missing, decodedNumber, encodeOf}
 use Rattle.isa.specs.declared.Instruction.the-variants.{Zero}
 use Rattle.isa.specs.declared.Encoded.the-variants.{Word as Encoding}
 use Rattle.isa.specs.declared.Refusal.the-variants.{Flags, FeatureOff, NotText}
 use Rattle.isa.proofs.Tests.{all-every}
 use Rattle.isa.proofs.Answers.{encode-in-range}
+use Rattle.isa.proofs.Sums.{without-sum, with-sum}
 use Rattle.isa.proofs.Theorems.{decodes, describes}
 use Rattle.text.specs.Spelling.{Text}
 use Rattle.text.specs.Printing.{textOf, printNumber, printLength, roomAfter}
@@ -24,7 +25,7 @@ use Rattle.text.proofs.Lengths.{line-between}
 use Rattle.text.proofs.Theorems.{prints}
 use Rattle.reader.specs.declared.Reading.{Reading}
 use Rattle.reader.specs.declared.Reading.the-variants.{Word, Refused}
-use Rattle.reader.specs.Answers.{hasText, wordWith, readOf, readingNumber, readingWord, readNumber, readWord}
+use Rattle.reader.specs.Answers.{hasText, wordWith, readOf, readingNumber, readingMissing, readingWord, readNumber, readWord}
 use Rattle.reader.specs.Claims.{Spells, Reads, OneWord, OneSpelling, ReadAs, PrintedAs, Undo, oldLine, OldRefused}
 use Rattle.reader.proofs.Words.{described-text, has-text, text-had, guessed, one-word, with-some, with-none, with-is}
 use Rattle.reader.proofs.Back.{old-back}
@@ -45,19 +46,23 @@ spelt-between {w} s =
     let (i, d) = describes w (s .fits) (s .listed) in
     subst (OfLength 1 47) (sym (described-text w i (d .is)) ∙ s .text) (line-between i (d .in-range))
 
+-- no two words share a line
+pub no-two-words : OneWord
+no-two-words v w t p q = one-word v w t (p .fits) (q .fits) (tested p) (tested q)
+
 -- the four outcomes of a read
 data Outcome (flags : ℕ) (t : Text) : Reading → Type 0 where
   is-word : (w : ℕ) → flags ≤ allFlags → Spells w t → FeaturesOn flags w → Outcome flags t (Word w)
   gives-1 : allFlags < flags → Outcome flags t (Refused Flags)
   gives-13 : flags ≤ allFlags → ((w : ℕ) → Spells w t → ⊥) → Outcome flags t (Refused NotText)
-  gives-8 : flags ≤ allFlags → (w : ℕ) → Spells w t → (FeaturesOn flags w → ⊥) → Outcome flags t (Refused FeatureOff)
+  gives-8 : flags ≤ allFlags → (w : ℕ) → Spells w t → (FeaturesOn flags w → ⊥) → Outcome flags t (Refused (FeatureOff (missing flags w)))
 
 module _ (flags : ℕ) (t : Text) where
   -- the answer in each case
   word-when : (w : ℕ) → flags ≤ allFlags → Spells w t → FeaturesOn flags w → readOf flags t ≡ Word w
   word-when w h s f = read-some flags w t h (with-some w t (s .fits) (tested s)) ∙ rw (eq-eqb _ 0 (decodes flags w .missing-none .1 f))
 
-  feature-when : (w : ℕ) → flags ≤ allFlags → Spells w t → (FeaturesOn flags w → ⊥) → readOf flags t ≡ Refused FeatureOff
+  feature-when : (w : ℕ) → flags ≤ allFlags → Spells w t → (FeaturesOn flags w → ⊥) → readOf flags t ≡ Refused (FeatureOff (missing flags w))
   feature-when w h s f =
       read-some flags w t h (with-some w t (s .fits) (tested s)) ∙ rw (ne-eqb _ 0 (λ z. f (decodes flags w .missing-none .0 z)))
 
@@ -109,13 +114,28 @@ module _ (flags : ℕ) (t : Text) where
   of-8 r (gives-13 h f) e = absurd (omega arith)
   of-8 r (gives-8 h w s f) e = (h, (w, s, f))
 
+  -- the line of w gets its sum
+  handed : (w : ℕ) → Spells w t → (r : Reading) → Outcome flags t r → HandsBack flags w (readingNumber r) (readingMissing r)
+  handed w s r (is-word v h k f) = without-sum (λ e. omega arith)
+  handed w s r (gives-1 h) = without-sum (λ e. omega arith)
+  handed w s r (gives-13 h f) = without-sum (λ e. omega arith)
+  handed w s r (gives-8 h v k f) =
+      subst (λ (v : ℕ). HandsBack flags w 8 (missing flags v)) (no-two-words w v t s k)
+      (with-sum (λ z. f (subst (FeaturesOn flags) (no-two-words w v t s k) (decodes flags w .missing-none .0 z))))
+
+  no-sum : (r : Reading) → Outcome flags t r → (readingNumber r ≡ 8 → ⊥) → readingMissing r ≡ 0
+  no-sum r (is-word w h s f) z = refl
+  no-sum r (gives-1 h) z = refl
+  no-sum r (gives-13 h f) z = refl
+  no-sum r (gives-8 h w s f) z = absurd (z refl)
+
   no-word : (r : Reading) → Outcome flags t r → (readingNumber r ≡ 0 → ⊥) → readingWord r ≡ 0
   no-word r (is-word w h s f) z = absurd (z refl)
   no-word r (gives-1 h) z = refl
   no-word r (gives-13 h f) z = refl
   no-word r (gives-8 h w s f) z = refl
 
--- which number read answers, and which word
+-- what read answers
 pub reads : (flags : ℕ) (t : Text) → Reads flags t
 reads flags t =
     let o = outcome flags t in
@@ -127,14 +147,12 @@ reads flags t =
       gives-1 = (of-1 flags t (readOf flags t) o, λ h. ap readingNumber (read-flags flags t h));
       gives-13 = (of-13 flags t (readOf flags t) o, λ c. ap readingNumber (none-when flags t (c .0) (c .1)));
       gives-8 = (of-8 flags t (readOf flags t) o, λ c. let (w, s, f) = c .1 in ap readingNumber (feature-when flags t w (c .0) s f));
+      hands-back = λ w s. handed flags t w s (readOf flags t) o;
+      no-sum = no-sum flags t (readOf flags t) o;
       word = λ e. let (h, s, f) = of-0 flags t (readOf flags t) o e in (s, f);
       refused = no-word flags t (readOf flags t) o;
       between = λ e. spelt-between (of-0 flags t (readOf flags t) o e .1);
     }
-
--- no two words share a line
-pub no-two-words : OneWord
-no-two-words v w t p q = one-word v w t (p .fits) (q .fits) (tested p) (tested q)
 
 -- no word is read from two lines
 pub no-second-spelling : OneSpelling

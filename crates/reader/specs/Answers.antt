@@ -1,10 +1,11 @@
--- What read answers (document 02, C-11), by the spelling of text/specs alone: the word that has a line is looked for among all.
+-- What read answers (document 02, C-11 and C-15), by the spelling of text/specs alone: the word that has a line is looked for
+-- among all.
 use mathlib.Core.Bool.{Bool, true, false, not, cond, _&&_}
 use mathlib.Core.List.{List, [], _∷_}
 use mathlib.Core.Option.{Option, none, some}
 use Prim.Native.Nat.{ℕ, zero, suc, _^_}
 use lib.Dec.{eqb}
-use Rattle.isa.specs.Refusals.{number, Test, firstFailure}
+use Rattle.isa.specs.Refusals.{refusalNumber, refusalMissing, Test, firstFailure}
 use Rattle.isa.specs.Answers.{describe, missing, absent, flagsTest}
 use Rattle.isa.specs.declared.Refusal.{Refusal}
 use Rattle.isa.specs.declared.Refusal.the-variants.{FeatureOff, NotText}
@@ -47,7 +48,7 @@ abbrev pub readTests : ℕ → Option ℕ → List Test
 readTests flags o =
     flagsTest flags
     ∷ record { fails = noWord o; gives = NotText }
-    ∷ record { fails = not (eqb (missingOf flags o) 0); gives = FeatureOff }
+    ∷ record { fails = not (eqb (missingOf flags o) 0); gives = FeatureOff (missingOf flags o) }
     ∷ []
 
 -- a refusal, or the word; the last clause is there for form, as a line without a word fails test 13
@@ -59,10 +60,16 @@ answered none none = Refused NotText
 unfoldable pub readOf : ℕ → Text → Reading
 readOf flags t = answered (firstFailure (readTests flags (wordWith t))) (wordWith t)
 
--- the paper's number and value of an answer
+-- the refusal of an answer, and the paper's number, sum and value
+abbrev pub readingRefusal : Reading → Option Refusal
+readingRefusal (Word w) = none
+readingRefusal (Refused r) = some r
+
 abbrev pub readingNumber : Reading → ℕ
-readingNumber (Word w) = 0
-readingNumber (Refused r) = number r
+readingNumber a = refusalNumber (readingRefusal a)
+
+abbrev pub readingMissing : Reading → ℕ
+readingMissing a = refusalMissing (readingRefusal a)
 
 abbrev pub readingWord : Reading → ℕ
 readingWord (Word w) = w
@@ -70,6 +77,9 @@ readingWord (Refused r) = 0
 
 abbrev pub readNumber : ℕ → Text → ℕ
 readNumber flags t = readingNumber (readOf flags t)
+
+abbrev pub readMissing : ℕ → Text → ℕ
+readMissing flags t = readingMissing (readOf flags t)
 
 abbrev pub readWord : ℕ → Text → ℕ
 readWord flags t = readingWord (readOf flags t)

@@ -1,4 +1,5 @@
--- What document 02 (C-11, C-12) asks of a read, in the paper's numbers; proofs/Theorems.antt proves it for every flags and line.
+-- What document 02 (C-11, C-12, C-15) asks of a read, in the paper's numbers; proofs/Theorems.antt proves it for every flags and
+-- line.
 use mathlib.Core.Path.{_≡_}
 use mathlib.Core.Logic.{_↔_}
 use mathlib.Core.Bool.{_&&_}
@@ -7,14 +8,14 @@ use Prim.Native.Nat.{ℕ, _+_, _≤_, _<_, _^_}
 use lib.Dec.{eqb}
 use lib.ListN.{length, take}
 use Rattle.isa.specs.Table.{allFlags}
-use Rattle.isa.specs.Claims.{Listed, FeaturesOn}
+use Rattle.isa.specs.Claims.{Listed, FeaturesOn, HandsBack}
 use Rattle.names.specs.declared.TileName.{TileName}
 use Rattle.names.specs.Names.{names, inside, chosen}
 use Rattle.text.specs.Ascii.{ascii}
 use Rattle.text.specs.Spelling.{Text, nameText, braced}
 use Rattle.text.specs.Printing.{textOf, printNumber, printLength, roomAfter}
 use Rattle.text.specs.Claims.{OfLength, Holds}
-use Rattle.reader.specs.Answers.{readNumber, readWord}
+use Rattle.reader.specs.Answers.{readNumber, readMissing, readWord}
 
 -- w is a listed word, and the line is its text
 pub record Spells (w : ℕ) (t : Text) : Type 0 where
@@ -22,12 +23,14 @@ pub record Spells (w : ℕ) (t : Text) : Type 0 where
   pub listed : Listed w
   pub text : textOf w ≡ t
 
--- which number read answers, and which word
+-- what read answers; only a word's line gets a sum
 pub record Reads (flags : ℕ) (t : Text) : Type 0 where
   pub accepts : (readNumber flags t ≡ 0) ↔ (flags ≤ allFlags) × ((w : ℕ) × Spells w t × FeaturesOn flags w)
   pub gives-1 : (readNumber flags t ≡ 1) ↔ (allFlags < flags)
   pub gives-13 : (readNumber flags t ≡ 13) ↔ (flags ≤ allFlags) × ((w : ℕ) → Spells w t → ⊥)
   pub gives-8 : (readNumber flags t ≡ 8) ↔ (flags ≤ allFlags) × ((w : ℕ) × Spells w t × (FeaturesOn flags w → ⊥))
+  pub hands-back : (w : ℕ) → Spells w t → HandsBack flags w (readNumber flags t) (readMissing flags t)
+  pub no-sum : (readNumber flags t ≡ 8 → ⊥) → readMissing flags t ≡ 0
   pub word : readNumber flags t ≡ 0 → Spells (readWord flags t) t × FeaturesOn flags (readWord flags t)
   pub refused : (readNumber flags t ≡ 0 → ⊥) → readWord flags t ≡ 0
   pub between : readNumber flags t ≡ 0 → OfLength 1 47 t

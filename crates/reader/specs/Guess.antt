@@ -2,6 +2,7 @@
 -- cite this page.
 use mathlib.Core.Bool.{Bool, false, not, cond, _&&_, _||_}
 use mathlib.Core.List.{[], _∷_}
+use mathlib.Core.Option.{Option, none, some}
 use Prim.Native.Nat.{ℕ, _+_, _-_, _*_, _%_, _^_}
 use lib.Dec.{eqb, ltb}
 use lib.ListN.{length, getD}
@@ -10,7 +11,8 @@ use Rattle.isa.specs.declared.Operation.{Operation}
 use Rattle.isa.specs.declared.Source.{Source}
 use Rattle.isa.specs.declared.Instruction.{Instruction}
 use Rattle.isa.specs.declared.Instruction.the-variants.{Predicated, Quarter, Zero}
-use Rattle.isa.specs.declared.Refusal.the-variants.{FeatureOff, NotText}
+use Rattle.isa.specs.declared.Refusal.{Refusal}
+use Rattle.isa.specs.declared.Refusal.the-variants.{NotText}
 use Rattle.text.specs.Spelling.{Text}
 use Rattle.reader.specs.declared.Reading.{Reading}
 use Rattle.reader.specs.declared.Reading.the-variants.{Word, Refused}
@@ -140,6 +142,10 @@ outerGuess t s = outerOf (operationOf t (s .wide) (s .half && not (s .wide)) (s 
 unfoldable pub guessOf : Text → Instruction
 guessOf t = cond (eqb (byteAt t 0) 122) (Zero (zeroMask t)) (outerGuess t (scanned fresh t))
 
--- ---- what is answered of a word, by whether it has the line, and whether flags allow it
-abbrev pub verdict : ℕ → Bool → Bool → Reading
-verdict w spelt allowed = cond spelt (cond allowed (Word w) (Refused FeatureOff)) (Refused NotText)
+-- ---- what is answered of a word, by whether it has the line, and by decode's refusal
+abbrev pub wordUnless : Option Refusal → ℕ → Reading
+wordUnless none w = Word w
+wordUnless (some r) w = Refused r
+
+abbrev pub verdict : ℕ → Bool → Option Refusal → Reading
+verdict w spelt o = cond spelt (wordUnless o w) (Refused NotText)

@@ -2,10 +2,12 @@
 ghost use mathlib.Core.Path.{_≡_};
 ghost use Prim.Native.Nat.{_≤_};
 ghost use lib.ListN.{length, take};
-ghost use Rattle.reader.specs.Answers.{sameText, hasText, readOf, readingNumber, readingWord, readNumber, readWord};
+ghost use Rattle.isa.specs.Answers.{checkedRefusal};
+ghost use Rattle.reader.specs.Answers.{sameText, hasText, readOf, readingNumber, readingMissing, readingWord, readNumber, readMissing, readWord};
 ghost use Rattle.reader.specs.Guess.{verdict};
 use crate::Reading;
 use crate::guess;
+use isa::Checked;
 use isa::Encoded;
 use isa::Refusal;
 use text::Printed;
@@ -14,28 +16,29 @@ use text::Printed;
 pub fn read(flags: u32, line: &[u8]) -> Reading
     ensures { λ r. ⌜ r ≡ readOf flags (now (line .entry)) ⌝ }
     ensures { λ r. ⌜ readingNumber r ≡ readNumber flags (now (line .entry)) ⌝ }
+    ensures { λ r. ⌜ readingMissing r ≡ readMissing flags (now (line .entry)) ⌝ }
     ensures { λ r. ⌜ readingWord r ≡ readWord flags (now (line .entry)) ⌝ }
 {
     if !isa::flags_legal(flags) {
         return Reading::Refused(Refusal::Flags);
     }
     match isa::encode(guess::guess(line)) {
-        Encoded::Word(w) => decide(w, has_text(w, line), isa::decode_number(flags, w) == 0),
+        Encoded::Word(w) => decide(w, has_text(w, line), isa::check(flags, w)),
         Encoded::Refused(_) => Reading::Refused(Refusal::NotText),
     }
 }
 
 // What is answered of a word that may have the line, and may be allowed.
-fn decide(w: u32, spelt: bool, allowed: bool) -> Reading
-    ensures { λ r. ⌜ r ≡ verdict w spelt allowed ⌝ }
+fn decide(w: u32, spelt: bool, checked: Checked) -> Reading
+    ensures { λ r. ⌜ r ≡ verdict w spelt (checkedRefusal checked) ⌝ }
 {
     if !spelt {
         return Reading::Refused(Refusal::NotText);
     }
-    if !allowed {
-        return Reading::Refused(Refusal::FeatureOff);
+    match checked {
+        Checked::Passed => Reading::Word(w),
+        Checked::Refused(r) => Reading::Refused(r),
     }
-    Reading::Word(w)
 }
 
 // Whether a word is listed and has this text. No text is longer than the room.

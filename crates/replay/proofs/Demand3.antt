@@ -18,7 +18,7 @@ use Rattle.storage.proofs.Sizes.{Length, za-good, place}
 use Rattle.replay.specs.Machine.{Machine, withZa}
 use Rattle.replay.specs.Execution.{refusalOf, none?, accepted, after}
 use Rattle.replay.specs.Lists.{played}
-use Rattle.replay.specs.Claims.{executeNumber, answers}
+use Rattle.replay.specs.Claims.{answers}
 use Rattle.replay.specs.Exchange.{exchanged}
 use Rattle.replay.specs.Demand3.{total, Names, Apart, Unnamed, Asked, Demand3}
 use Rattle.replay.proofs.Acts.{Width, Fit, Agree, acted, Does, as-acted, there-and-back, any-order, totals-named, others, rows-apart, sized}
@@ -35,7 +35,7 @@ module _ (m : Machine) (ws : List ℕ) (asked : Asked m ws) where
   refused-stays : (w : ℕ) → List·Mem w ws → accepted m w ≡ false → exchanged m w ≡ w
   refused-stays w i h = rw h
 
-  in-any-order : (os : List ℕ) → List·Permᴰ ws os → answers m os ≡ map (executeNumber m) os
+  in-any-order : (os : List ℕ) → List·Permᴰ ws os → answers m os ≡ map (refusalOf m) os
   in-any-order os i = answers-own os (keeps-refl m)
 
   -- ---- a bench that refuses every word

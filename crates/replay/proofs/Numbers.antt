@@ -233,16 +233,16 @@ module _ (b : Bench) (w : ℕ) where
   needs = modesOf (describe w)
 
   listed : Word (numberOf (firstFailure (listingTests (b .flags) w))) (needs .streaming) (b .sm) (needs .za) (b .za) wordNumber
-  listed = go (absent (describe w)) (not (eqb (missing (b .flags) w) 0)) (needs .streaming) (b .sm) (needs .za) (b .za)
+  listed = go (absent (describe w)) (not (eqb (missing (b .flags) w) 0)) (needs .streaming) (b .sm) (needs .za) (b .za) (missing (b .flags) w)
     where
-      go : (l m o s n a : Bool)
-          → Word (numberOf (cond l (some Unlisted) (cond m (some FeatureOff) none))) o s n a
-          (numberOf (cond l (some Unlisted) (cond m (some FeatureOff) (cond (o && not s) (some StreamingOff) (cond (n && not a) (some ZaOff) none)))))
-      go true m o s n a = unlisted
-      go false true o s n a = feature-off
-      go false false true false n a = streaming-off
-      go false false true true n a = modes true true n a (λ e. refl)
-      go false false false s n a = modes false s n a (λ e. false-true e)
+      go : (l m o s n a : Bool) (sum : ℕ)
+          → Word (numberOf (cond l (some Unlisted) (cond m (some (FeatureOff sum)) none))) o s n a
+          (numberOf (cond l (some Unlisted) (cond m (some (FeatureOff sum)) (cond (o && not s) (some StreamingOff) (cond (n && not a) (some ZaOff) none)))))
+      go true m o s n a sum = unlisted
+      go false true o s n a sum = feature-off
+      go false false true false n a sum = streaming-off
+      go false false true true n a sum = modes true true n a (λ e. refl)
+      go false false false s n a sum = modes false s n a (λ e. false-true e)
 
   pub word : b .flags ≤ allFlags → Word (decodeNumber (b .flags) w) (needs .streaming) (b .sm) (needs .za) (b .za) wordNumber
   word f = subst (λ k. Word k (needs .streaming) (b .sm) (needs .za) (b .za) wordNumber) (sym (decode-number f)) listed

@@ -11,9 +11,9 @@ use Rattle.isa.specs.Refusals.{firstFailure, orElse}
 use Rattle.isa.specs.declared.Refusal.{Refusal}
 use Rattle.isa.specs.declared.Refusal.the-variants.{ListLength}
 use Rattle.replay.specs.Machine.{Machine, withZa}
-use Rattle.replay.specs.Execution.{wordRefusal, machineTests, leftBy, wordLeft, after, outcomeNumber}
+use Rattle.replay.specs.Execution.{wordRefusal, machineTests, leftBy, wordLeft, after, outcomeNumber, outcomeMissing}
 use Rattle.replay.specs.Lists.{played, mostWords, listTest, runTests, ended, before, stop, endOf, leftAtEnd, ranWords, ran, runOf, runLeft}
-use Rattle.replay.specs.Claims.{runCount, runNumber}
+use Rattle.replay.specs.Claims.{runCount, runNumber, runMissing}
 use Rattle.replay.specs.declared.Ended.{Ended}
 use Rattle.isa.proofs.Refusals.{failure-++}
 use Rattle.replay.proofs.Execution.{refused-by-word, after-by}
@@ -143,10 +143,14 @@ module _ (m : Machine) (ws : List ℕ) where
   RunIs r m′ = (r ≡ runOf m ws) × (m′ ≡ runLeft m ws)
 
   abbrev pub RunZa : Ended → List ℕ → Type 0
-  RunZa r za = (r ≡ runOf m ws) × ((za ≡ runLeft m ws .za) × ((r .count ≡ runCount m ws) × (outcomeNumber (r .outcome) ≡ runNumber m ws)))
+  RunZa r za =
+      (r ≡ runOf m ws)
+      × ((za ≡ runLeft m ws .za)
+      × ((r .count ≡ runCount m ws) × ((outcomeNumber (r .outcome) ≡ runNumber m ws) × (outcomeMissing (r .outcome) ≡ runMissing m ws))))
 
   pub run-numbers : (r : Ended) (za : List ℕ) → r ≡ runOf m ws → za ≡ runLeft m ws .za → RunZa r za
-  run-numbers r za e f = (e, (f, (ap (λ (r : Ended). r .count) e, ap (λ (r : Ended). outcomeNumber (r .outcome)) e)))
+  run-numbers r za e f =
+      (e, (f, (ap (λ (r : Ended). r .count) e, (ap (λ (r : Ended). outcomeNumber (r .outcome)) e, ap (λ (r : Ended). outcomeMissing (r .outcome)) e))))
 
   run-za : (r : Ended) (m′ : Machine) → RunIs r m′ → RunZa r (m′ .za)
   run-za r m′ e = run-numbers r (m′ .za) (e .0) (ap (λ (n : Machine). n .za) (e .1))

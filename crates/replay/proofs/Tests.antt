@@ -15,10 +15,11 @@ use Rattle.isa.specs.declared.Instruction.{Instruction}
 use Rattle.isa.specs.declared.Decoded.{Decoded}
 use Rattle.isa.specs.declared.Decoded.the-variants.{Accepted, Refused as NotDecoded}
 use Rattle.isa.proofs.Refusals.{failure-++}
+use Rattle.isa.proofs.Sums.{Fair, fair-++, plain-fair, listing-fair}
 use Rattle.isa.proofs.Answers.{decode-refused, decode-passed, decided-accepted, decided-refused}
 use Rattle.replay.specs.Instructions.{modesOf}
 use Rattle.replay.specs.Machine.{Machine}
-use Rattle.replay.specs.Execution.{benchTests, modeTests, wordTests, machineTests, outcome}
+use Rattle.replay.specs.Execution.{benchTests, modeTests, wordTests, machineTests, outcome, outcomeRefusal}
 use Rattle.replay.specs.Claims.{Passes, BenchPasses}
 use Rattle.replay.specs.declared.Bench.{Bench}
 use Rattle.replay.specs.declared.Outcome.the-variants.{Done, Refused}
@@ -44,6 +45,19 @@ outcome-done (some r) p = let z : _≡_ {A = ℕ} 0 1 = cc in absurd (omega arit
 pub outcome-refused : (o : Option Refusal) (r : Refusal) → Refused r ≡ outcome o → o ≡ some r
 outcome-refused none r p = let z : _≡_ {A = ℕ} 0 1 = cc in absurd (omega arith)
 outcome-refused (some s) r p = let z : s ≡ r = cc in ap {B = Option Refusal} some z
+
+pub outcome-back : (o : Option Refusal) → outcomeRefusal (outcome o) ≡ o
+outcome-back none = refl
+outcome-back (some r) = refl
+
+-- ---- what they hand back
+pub machine-fair : (flags w : ℕ) (m : Machine) → Fair flags w (machineTests m)
+machine-fair flags w m = plain-fair flags w (machineTests m) refl
+
+pub word-fair : (b : Bench) (w : ℕ) → Fair (b .flags) w (wordTests b w)
+word-fair b w =
+    let modes = modeTests b (modesOf (describe w)) in
+    fair-++ (b .flags) w (listingTests (b .flags) w) modes (listing-fair (b .flags) w) (plain-fair (b .flags) w modes refl)
 
 -- ---- a bench that passed 1 to 5
 bench-passes : (b : Bench) (z p za : ℕ) → firstFailure (benchTests b z p za) ≡ none → Passes b z p za

@@ -1,8 +1,9 @@
--- What document 01 asks of one executed word and of a run: the claims of specs/Claims.antt hold for every input. Assumes nothing.
+-- What documents 01 and 02 ask of one executed word and of a run: the claims of specs/Claims.antt hold for every input. Assumes
+-- nothing.
 use mathlib.Core.Path.{_≡_, _∙_, sym, refl, ap, subst}
 use mathlib.Core.Bool.{Bool, true, false, cond, _&&_}
 use mathlib.Core.Logic.{_↔_}
-use mathlib.Core.List.{List, [], _∷_}
+use mathlib.Core.List.{List, [], _∷_, _++_}
 use mathlib.Core.Option.{Option, none, some}
 use Prim.Native.Nat.{ℕ, zero, suc, _≤_, _<_}
 use native.Mathlib.Omega.{arith}
@@ -11,6 +12,7 @@ use lib.ListN.{length, getD, take}
 use borrow.Author.Tests.{ltb-true, ltb-false}
 use Rattle.isa.specs.Refusals.{firstFailure, orElse}
 use Rattle.isa.specs.Answers.{describe, decodeOf, decodedNumber, decodeNumber}
+use Rattle.isa.specs.Claims.{HandsBack}
 use Rattle.isa.specs.declared.Decoded.{Decoded}
 use Rattle.isa.specs.declared.Decoded.the-variants.{Accepted, Refused as NotDecoded}
 use Rattle.isa.specs.declared.Instruction.{Instruction}
@@ -18,17 +20,20 @@ use Rattle.isa.specs.declared.Instruction.the-variants.{Predicated, Quarter, Ze
 use Rattle.isa.specs.declared.Refusal.{Refusal}
 use Rattle.isa.specs.declared.Refusal.the-variants.{ListLength}
 use Rattle.isa.proofs.Answers.{decode-passed}
+use Rattle.isa.proofs.Sums.{without-sum, Handed, handed, fair-++, plain-fair}
 use Rattle.storage.specs.Bytes.{at}
 use Rattle.storage.specs.Tile.{clear}
 use Rattle.storage.proofs.Clearing.{clear-in, clear-out}
 use Rattle.isa.proofs.Refusals.{failure-++, number-positive}
+use Rattle.replay.specs.declared.Bench.{Bench}
 use Rattle.replay.specs.declared.Ended.{Ended}
 use Rattle.replay.specs.Machine.{Machine}
 use Rattle.replay.specs.Instructions.{isOuter, modesOf, hasOpposite}
-use Rattle.replay.specs.Execution.{machineTests, wordRefusal, refusalOf, none?, effect, unless, after, outcomeNumber}
-use Rattle.replay.specs.Lists.{played, mostWords, listTest, runTests, keep, before, stop, ran, runOf, runLeft}
+use Rattle.replay.specs.Execution.{machineTests, wordTests, wordRefusal, refusalOf, none?, effect, unless, after, outcomeNumber, outcomeMissing}
+use Rattle.replay.specs.Lists.{played, mostWords, listTest, runTests, ended, keep, before, stop, ran, runOf, runLeft}
 use Rattle.replay.specs.Exchange.{flipS, exchanged}
-use Rattle.replay.specs.Claims.{executeNumber, Keeps, Clears, BenchPasses, FirstFiveOn, Executes, NeedsModes, runNumber, runCount, Ends, Runs}
+use Rattle.replay.specs.Claims.{executeNumber, executeMissing, Keeps, Clears, BenchPasses, FirstFiveOn, Executes, NeedsModes, runNumber, runCount, Ends, Runs}
+use Rattle.replay.proofs.Tests.{outcome-back, machine-fair, word-fair}
 use Rattle.replay.proofs.Execution.{refusal-by, refused-by-word, after-by}
 use Rattle.replay.proofs.Keeping.{after-keeps, played-keeps, same-refusal, Alike, played-alike, same-tests}
 use Rattle.replay.proofs.Runs.{before-cons, before-none, before-end, stop-cons, stop-here, stop-end}
@@ -69,7 +74,16 @@ module _ (m : Machine) (w : ℕ) where
       subst (λ k. (k ≡ n) ↔ BenchPasses m × C) (sym execute-is)
       (later (m .bench) (length (m .z)) (length (m .p)) (length (m .za)) (wordRefusal m w) late c)
 
-  -- which number a word gets, and what it leaves
+  -- tests 1 to 5, then 7 to 10, hand back the word's sum
+  handed-back : HandsBack (m .bench .flags) w (executeNumber m w) (executeMissing m w)
+  unfolding refusalOf
+  handed-back =
+      let flags = m .bench .flags in
+      let words = wordTests (m .bench) w in
+      rw (outcome-back (refusalOf m w))
+      (handed flags w (machineTests m ++ words) (fair-++ flags w (machineTests m) words (machine-fair flags w m) (word-fair (m .bench) w)))
+
+  -- what a word gets, and what it leaves
   pub executes : Executes m w
   executes =
       record {
@@ -79,6 +93,7 @@ module _ (m : Machine) (w : ℕ) where
             (λ h. let l = word-number-late (m .bench) w h in omega arith));
         gives-7 = execute-later (λ l. omega arith) (λ h. word-7 (execute-word h));
         gives-8 = execute-later (λ l. omega arith) (λ h. word-8 (execute-word h));
+        hands-back = handed-back;
         gives-9 = regroup (execute-later (λ l. omega arith) (λ h. word-9 (execute-word h)));
         gives-10 = regroup′ (execute-later (λ l. omega arith) (λ h. word-10 (execute-word h)));
         accepts = regroup (execute-later (λ l. absurd (omega arith)) (λ h. word-0 (execute-word h)));
@@ -133,8 +148,8 @@ pub run-keeps : (m : Machine) (ws : List ℕ) → Keeps m (runLeft m ws)
 unfolding runLeft
 run-keeps m ws = played-keeps (ran m ws) m
 
-pub same-answer : {m n : Machine} → Keeps m n → (w : ℕ) → executeNumber n w ≡ executeNumber m w
-same-answer k w = ap numberOf (same-refusal k w)
+pub same-answer : {m n : Machine} → Keeps m n → (w : ℕ) → refusalOf n w ≡ refusalOf m w
+same-answer = same-refusal
 
 pub same-exchange : {m n : Machine} → Keeps m n → (w : ℕ) → exchanged n w ≡ exchanged m w
 same-exchange k w = ap (λ o. cond (none? o && hasOpposite (describe w)) (flipS w) w) (same-refusal k w)
@@ -211,6 +226,18 @@ leaves-at : {m : Machine} {ws : List ℕ} {n : ℕ} {o : Option Refusal} → Lea
 leaves-at at-end h = absurd (omega arith)
 leaves-at (at-word n r l e) h = e
 
+-- what is handed back where a run ends
+abbrev HandedAt : Machine → List ℕ → Ended → Type 0
+HandedAt m ws r = HandsBack (m .bench .flags) (getD ws (r .count) 0) (outcomeNumber (r .outcome)) (outcomeMissing (r .outcome))
+
+leaves-handed : {m : Machine} {ws : List ℕ} {n : ℕ} {o : Option Refusal} → Leaves m ws n o → HandedAt m ws (ended n o)
+leaves-handed at-end = without-sum (λ e. omega arith)
+leaves-handed {m} {ws} (at-word n r l e) =
+    let b = played m (take n ws) .bench in
+    let w = getD ws n 0 in
+    let h : Handed (b .flags) w (some r) = subst (Handed (b .flags) w) e (handed (b .flags) w (wordTests b w) (word-fair b w)) in
+    subst (λ (b : Bench). Handed (b .flags) w (some r)) (played-keeps (take n ws) m .bench) h
+
 or-else : (o q r : Option Refusal) → orElse (orElse o q) r ≡ orElse o (orElse q r)
 or-else none q r = refl
 or-else (some s) q r = refl
@@ -282,6 +309,17 @@ module _ (m : Machine) (ws : List ℕ) where
           let f = leaves-late (leaves ws m) (omega arith) in
           absurd (omega arith)
 
+  run-handed : HandedAt m ws (runOf m ws)
+  run-handed = go (firstFailure (runTests m ws)) refl
+    where
+      go : (o : Option Refusal) → firstFailure (runTests m ws) ≡ o → HandedAt m ws (runOf m ws)
+      go none e = subst (HandedAt m ws) (run-by m ws none e .0) (leaves-handed (leaves ws m))
+      go (some r) e =
+          let flags = m .bench .flags in
+          let w = getD ws 0 0 in
+          subst (HandedAt m ws) (run-not-begun m ws r e .0)
+          (subst (Handed flags w) e (handed flags w (runTests m ws) (plain-fair flags w (runTests m ws) refl)))
+
   run-most : runCount m ws ≤ mostWords
   run-most = go (firstFailure (machineTests m)) refl (ltb mostWords (length ws)) refl
     where
@@ -293,7 +331,7 @@ module _ (m : Machine) (ws : List ℕ) where
           let c = ap (λ (r : Ended). r .count) (run-begun m ws e h .0) in
           omega (arith, leaves-within (leaves ws m))
 
-  -- which number a run gets, how many words it executes, and what it leaves
+  -- what a run gets, how many words it executes, and what it leaves
   pub runs : Runs m ws
   runs =
       record {
@@ -301,6 +339,7 @@ module _ (m : Machine) (ws : List ℕ) where
         gives-6 =
             subst (λ k. (k ≡ 6) ↔ BenchPasses m × (mostWords < length ws)) (sym run-is)
             (later (m .bench) (length (m .z)) (length (m .p)) (length (m .za)) fromSix (λ l. omega arith) (λ h. is-six));
+        hands-back = run-handed;
         not-begun = run-refused;
         most = run-most;
         begun = run-passes;

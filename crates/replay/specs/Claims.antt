@@ -1,35 +1,45 @@
--- What document 01 asks of one executed word and of a run, in its numbers; proofs/Theorems.antt proves it for every input.
+-- What documents 01 and 02 ask of one executed word and of a run, in their numbers; proofs/Theorems.antt proves it for every
+-- input.
 use mathlib.Core.Path.{_≡_}
 use mathlib.Core.Bool.{true, false}
 use mathlib.Core.Logic.{_↔_}
 use mathlib.Core.List.{List, [], _∷_}
+use mathlib.Core.Option.{Option}
 use Prim.Native.Nat.{ℕ, _/_, _≤_, _<_}
 use lib.ListN.{length, getD, take}
 use Rattle.isa.specs.Table.{allFlags}
 use Rattle.isa.specs.Answers.{describe, decodeNumber}
+use Rattle.isa.specs.Claims.{HandsBack}
+use Rattle.isa.specs.declared.Refusal.{Refusal}
 use Rattle.storage.specs.Sizes.{legal, zSize, pSize, zaSize}
 use Rattle.storage.specs.Bytes.{at}
 use Rattle.storage.specs.Tile.{masked}
 use Rattle.replay.specs.declared.Bench.{Bench}
 use Rattle.replay.specs.Machine.{Machine}
 use Rattle.replay.specs.Instructions.{isOuter, modesOf}
-use Rattle.replay.specs.Execution.{refusalOf, effect, after, outcome, outcomeNumber}
+use Rattle.replay.specs.Execution.{refusalOf, effect, after, outcome, outcomeNumber, outcomeMissing}
 use Rattle.replay.specs.Lists.{played, mostWords, runOf, runLeft}
 
--- ---- the numbers
+-- ---- the numbers, and the sums beside them
 abbrev pub executeNumber : Machine → ℕ → ℕ
 executeNumber m w = outcomeNumber (outcome (refusalOf m w))
 
--- each word's, in the order of the list, as the list is played
-unfoldable pub answers : Machine → List ℕ → List ℕ
-answers m [] = []
-answers m (w ∷ ws) = executeNumber m w ∷ answers (after m w) ws
+abbrev pub executeMissing : Machine → ℕ → ℕ
+executeMissing m w = outcomeMissing (outcome (refusalOf m w))
 
 abbrev pub runNumber : Machine → List ℕ → ℕ
 runNumber m ws = outcomeNumber (runOf m ws .outcome)
 
+abbrev pub runMissing : Machine → List ℕ → ℕ
+runMissing m ws = outcomeMissing (runOf m ws .outcome)
+
 abbrev pub runCount : Machine → List ℕ → ℕ
 runCount m ws = runOf m ws .count
+
+-- each word's whole answer, in the order of the list, as the list is played
+unfoldable pub answers : Machine → List ℕ → List (Option Refusal)
+answers m [] = []
+answers m (w ∷ ws) = refusalOf m w ∷ answers (after m w) ws
 
 -- ---- the bench and the lengths of Z, P and ZA
 module _ (b : Bench) (z p za : ℕ) where
@@ -79,6 +89,7 @@ module _ (m : Machine) where
     pub first-five : FirstFiveOn (executeNumber m w)
     pub gives-7 : (executeNumber m w ≡ 7) ↔ BenchPasses × (decodeNumber (m .bench .flags) w ≡ 7)
     pub gives-8 : (executeNumber m w ≡ 8) ↔ BenchPasses × (decodeNumber (m .bench .flags) w ≡ 8)
+    pub hands-back : HandsBack (m .bench .flags) w (executeNumber m w) (executeMissing m w)
     pub gives-9 : (executeNumber m w ≡ 9) ↔ ThroughEight w × (modesOf (describe w) .streaming ≡ true) × (m .bench .sm ≡ false)
     pub gives-10 : (executeNumber m w ≡ 10) ↔ ThroughEight w × StreamingFits w × (modesOf (describe w) .za ≡ true) × (m .bench .za ≡ false)
     pub accepts : (executeNumber m w ≡ 0) ↔ ThroughEight w × StreamingFits w × ZaFits w
@@ -114,6 +125,8 @@ module _ (m : Machine) (ws : List ℕ) where
   pub record Runs : Type 0 where
     pub first-five : FirstFiveOn m (runNumber m ws)
     pub gives-6 : (runNumber m ws ≡ 6) ↔ BenchPasses m × (mostWords < length ws)
+    -- 8 comes with the sum of the word that is refused, the one after those executed
+    pub hands-back : HandsBack (m .bench .flags) (getD ws (runCount m ws) 0) (runNumber m ws) (runMissing m ws)
     pub not-begun : 0 < runNumber m ws → runNumber m ws ≤ 6 → (runCount m ws ≡ 0) × (runLeft m ws ≡ m)
     pub most : runCount m ws ≤ mostWords
     pub begun : BenchPasses m → length ws ≤ mostWords → Ends (runCount m ws) (runNumber m ws) (runLeft m ws)

@@ -17,7 +17,7 @@ use Rattle.replay.specs.Machine.{Machine, withZa}
 use Rattle.replay.specs.Instructions.{isOuter, namesTile}
 use Rattle.replay.specs.Execution.{refusalOf, accepted, Addition, additionOf}
 use Rattle.replay.specs.Lists.{played}
-use Rattle.replay.specs.Claims.{executeNumber, answers}
+use Rattle.replay.specs.Claims.{answers}
 use Rattle.replay.specs.Exchange.{exchanged}
 
 -- ---- add and subtract exchanged
@@ -74,7 +74,7 @@ module _ (m : Machine) where
     pub exchanged-answer : (w : ℕ) → List·Mem w ws → refusalOf m (exchanged m w) ≡ refusalOf m w
     pub exchanged-is : (w : ℕ) → List·Mem w ws → accepted m w ≡ true → describe (exchanged m w) ≡ reversed (describe w)
     -- in every order each word of the list gets its own answer
-    pub answers-in-order : (os : List ℕ) → List·Permᴰ ws os → answers m os ≡ map (executeNumber m) os
+    pub answers-in-order : (os : List ℕ) → List·Permᴰ ws os → answers m os ≡ map (refusalOf m) os
     -- forward, then in reverse order with add and subtract exchanged
     pub back : played (played m ws) (reverse (map (exchanged m) ws)) ≡ m
     -- on the way back the answers of the way forward, in reverse

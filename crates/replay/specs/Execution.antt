@@ -1,4 +1,4 @@
--- One word: which refusal it gets, and what it leaves (document 01, "Execution" and "Refusal numbers").
+-- One word: which refusal it gets, and what it leaves (document 01, "Execution" and "Refusal numbers", and document 02, C-15).
 use mathlib.Core.Bool.{Bool, true, false, not, _&&_}
 use mathlib.Core.List.{List, [], _∷_, _++_}
 use mathlib.Core.Option.{Option, none, some}
@@ -6,7 +6,7 @@ use Prim.Native.Nat.{ℕ}
 use lib.Dec.{eqb}
 use lib.IntN.{ℤ}
 use lib.ListN.{length}
-use Rattle.isa.specs.Refusals.{number, Test, firstFailure}
+use Rattle.isa.specs.Refusals.{refusalNumber, refusalMissing, Test, firstFailure}
 use Rattle.isa.specs.Answers.{describe, flagsTest, listingTests}
 use Rattle.isa.specs.declared.Refusal.{Refusal}
 use Rattle.isa.specs.declared.Refusal.the-variants.{VectorLength, ZLength, PLength, ZaLength, StreamingOff, ZaOff}
@@ -107,11 +107,17 @@ after m w = leftBy m w (refusalOf m w)
 abbrev pub wordLeft : Machine → ℕ → Machine
 wordLeft m w = leftBy m w (wordRefusal m w)
 
--- the answer, and its number in the paper
+-- the answer, its refusal, and the paper's number and sum
 abbrev pub outcome : Option Refusal → Outcome
 outcome none = Done
 outcome (some r) = Refused r
 
+abbrev pub outcomeRefusal : Outcome → Option Refusal
+outcomeRefusal Done = none
+outcomeRefusal (Refused r) = some r
+
 abbrev pub outcomeNumber : Outcome → ℕ
-outcomeNumber Done = 0
-outcomeNumber (Refused r) = number r
+outcomeNumber a = refusalNumber (outcomeRefusal a)
+
+abbrev pub outcomeMissing : Outcome → ℕ
+outcomeMissing a = refusalMissing (outcomeRefusal a)

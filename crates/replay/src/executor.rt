@@ -5,8 +5,8 @@ ghost use mathlib.Core.Option.{none, some};
 ghost use Rattle.isa.specs.Refusals.{firstFailure};
 ghost use Rattle.isa.specs.Table.{inRange};
 ghost use Rattle.replay.specs.Machine.{on};
-ghost use Rattle.replay.specs.Execution.{machineTests, wordRefusal, wordLeft, refusalOf, effect, after, outcome, outcomeNumber};
-ghost use Rattle.replay.specs.Claims.{executeNumber};
+ghost use Rattle.replay.specs.Execution.{machineTests, wordRefusal, wordLeft, refusalOf, effect, after, outcome, outcomeNumber, outcomeMissing};
+ghost use Rattle.replay.specs.Claims.{executeNumber, executeMissing};
 use crate::Bench;
 use crate::Outcome;
 use crate::admission::admit;
@@ -21,6 +21,7 @@ pub fn execute(bench: Bench, z: &[u8], p: &[u8], za: &mut [u8], word: u32) -> Ou
     ensures { λ r. ⌜ r ≡ outcome (refusalOf (on bench (now (z .entry)) (now (p .entry)) (now (za .entry))) word) ⌝ }
     ensures { λ _. ⌜ now (za .exit) ≡ after (on bench (now (z .entry)) (now (p .entry)) (now (za .entry))) word .za ⌝ }
     ensures { λ r. ⌜ outcomeNumber r ≡ executeNumber (on bench (now (z .entry)) (now (p .entry)) (now (za .entry))) word ⌝ }
+    ensures { λ r. ⌜ outcomeMissing r ≡ executeMissing (on bench (now (z .entry)) (now (p .entry)) (now (za .entry))) word ⌝ }
 {
     match check_bench(bench, z.len(), p.len(), za.len()) {
         Outcome::Refused(r) => Outcome::Refused(r),

@@ -3,9 +3,9 @@ ghost use mathlib.Core.Path.{_≡_};
 ghost use mathlib.Core.Option.{none};
 ghost use Rattle.isa.specs.Refusals.{firstFailure};
 ghost use Rattle.replay.specs.Machine.{on};
-ghost use Rattle.replay.specs.Execution.{machineTests, outcomeNumber};
+ghost use Rattle.replay.specs.Execution.{machineTests, outcomeNumber, outcomeMissing};
 ghost use Rattle.replay.specs.Lists.{played, endOf, leftAtEnd, runOf, runLeft};
-ghost use Rattle.replay.specs.Claims.{runCount, runNumber};
+ghost use Rattle.replay.specs.Claims.{runCount, runNumber, runMissing};
 use crate::Bench;
 use crate::Ended;
 use crate::Outcome;
@@ -23,6 +23,7 @@ pub fn run(bench: Bench, z: &[u8], p: &[u8], za: &mut [u8], words: &[u32]) -> En
     ensures { λ _. ⌜ now (za .exit) ≡ runLeft (on bench (now (z .entry)) (now (p .entry)) (now (za .entry))) (now (words .entry)) .za ⌝ }
     ensures { λ r. ⌜ r .count ≡ runCount (on bench (now (z .entry)) (now (p .entry)) (now (za .entry))) (now (words .entry)) ⌝ }
     ensures { λ r. ⌜ outcomeNumber (r .outcome) ≡ runNumber (on bench (now (z .entry)) (now (p .entry)) (now (za .entry))) (now (words .entry)) ⌝ }
+    ensures { λ r. ⌜ outcomeMissing (r .outcome) ≡ runMissing (on bench (now (z .entry)) (now (p .entry)) (now (za .entry))) (now (words .entry)) ⌝ }
 {
     match check_bench(bench, z.len(), p.len(), za.len()) {
         Outcome::Refused(r) => Ended {

@@ -1,18 +1,24 @@
 // Decodes all 2^32 words, with every feature on and with document 01's: how many each line of the table accepts, how many
-// descriptions encode to another word than the one that they came from, and how many words `decode_number` numbers otherwise.
+// descriptions encode to another word than the one that they came from, how many words `check` answers otherwise, and how
+// many miss which features. The same with no feature on.
 ghost use Prim.Native.Nat.{_<_};
+use checks::Sums;
 use checks::count;
 use checks::one_if;
 use checks::plus;
+use isa::Checked;
 use isa::Decoded;
 use isa::Encoded;
 use isa::Instruction;
 use isa::Operation;
+use isa::Refusal;
 
 const ALL_FEATURES: u32 = 15;
 
 // SME, I16I64 and MOP4.
 const DOCUMENT_01: u32 = 7;
+
+const NO_FEATURE: u32 = 0;
 
 // The lines of the table are numbered from 0; a refused word has none.
 const NO_LINE: u32 = 7;
@@ -26,12 +32,14 @@ pub struct Tally {
     pub quarter_two_way: u64,
     pub zero: u64,
     pub changed: u64,
-    pub renumbered: u64,
+    pub otherwise: u64,
+    pub sums: Sums,
 }
 
 fn main() {
     report(ALL_FEATURES);
     report(DOCUMENT_01);
+    report(NO_FEATURE);
 }
 
 fn report(flags: u32) {
@@ -51,7 +59,8 @@ fn report(flags: u32) {
     let two_way = plus(t.predicated_two_way, t.quarter_two_way);
     count(b"total: ", plus(base, two_way));
     count(b"encoded to another word: ", t.changed);
-    count(b"numbered otherwise: ", t.renumbered);
+    count(b"checked otherwise: ", t.otherwise);
+    checks::report_sums(t.sums);
 }
 
 fn sweep(flags: u32) -> Tally {
@@ -64,7 +73,8 @@ fn sweep(flags: u32) -> Tally {
         quarter_two_way: 0,
         zero: 0,
         changed: 0,
-        renumbered: 0,
+        otherwise: 0,
+        sums: checks::no_sums(),
     };
     let mut w: u64 = 0;
     while w < 0x1_0000_0000 {
@@ -76,14 +86,34 @@ fn sweep(flags: u32) -> Tally {
 
 // The tally with one word more.
 fn with_word(t: Tally, flags: u32, word: u32) -> Tally {
-    let number = isa::decode_number(flags, word);
+    let checked = isa::check(flags, word);
     match isa::decode(flags, word) {
-        Decoded::Accepted(i) => counted(t, line(i), encodes_to(i, word), number == 0),
-        Decoded::Refused(r) => counted(t, NO_LINE, true, number == isa::number(r)),
+        Decoded::Accepted(i) => counted(t, line(i), encodes_to(i, word), passed(checked), 0),
+        Decoded::Refused(r) => {
+            let sum = isa::missing(r);
+            counted(t, NO_LINE, true, refused_by(checked, r), sum)
+        }
     }
 }
 
-fn counted(t: Tally, line: u32, same_word: bool, same_number: bool) -> Tally {
+fn passed(c: Checked) -> bool {
+    match c {
+        Checked::Passed => true,
+        Checked::Refused(_) => false,
+    }
+}
+
+// Whether it is this refusal, with the same number and sum.
+fn refused_by(c: Checked, r: Refusal) -> bool {
+    match c {
+        Checked::Passed => false,
+        Checked::Refused(s) => {
+            (isa::number(s) == isa::number(r)) & (isa::missing(s) == isa::missing(r))
+        }
+    }
+}
+
+fn counted(t: Tally, line: u32, same_word: bool, same_check: bool, sum: u32) -> Tally {
     Tally {
         predicated32: plus(t.predicated32, one_if(line == 0)),
         predicated64: plus(t.predicated64, one_if(line == 1)),
@@ -93,7 +123,8 @@ fn counted(t: Tally, line: u32, same_word: bool, same_number: bool) -> Tally {
         predicated_two_way: plus(t.predicated_two_way, one_if(line == 5)),
         quarter_two_way: plus(t.quarter_two_way, one_if(line == 6)),
         changed: plus(t.changed, one_if(!same_word)),
-        renumbered: plus(t.renumbered, one_if(!same_number)),
+        otherwise: plus(t.otherwise, one_if(!same_check)),
+        sums: checks::with_sum(t.sums, sum),
     }
 }
 

@@ -13,6 +13,7 @@ use borrow.Author.Tests.{ltb-true, ltb-false, lt-ltb}
 use Rattle.isa.specs.Refusals.{number, refusalNumber, firstFailure}
 use Rattle.isa.specs.Table.{allFlags, wordFor}
 use Rattle.isa.specs.Answers.{describe, missing, absent, roomTests, decodeOf, decodeNumber}
+use Rattle.isa.specs.Claims.{HandsBack}
 use Rattle.isa.specs.declared.Instruction.{Instruction}
 use Rattle.isa.specs.declared.Instruction.the-variants.{Zero}
 use Rattle.isa.specs.declared.Refusal.{Refusal}
@@ -21,26 +22,27 @@ use Rattle.isa.specs.declared.Decoded.{Decoded}
 use Rattle.isa.specs.declared.Decoded.the-variants.{Accepted, Refused as NotDecoded}
 use Rattle.isa.proofs.Answers.{decode-refused, room-refused, room-passed}
 use Rattle.isa.proofs.Tests.{all-every}
+use Rattle.isa.proofs.Sums.{handed, room-fair}
 use Rattle.isa.proofs.Theorems.{describe-word, accepted-in-range}
 use Rattle.names.proofs.Theorems.{one-list}
 use Rattle.text.specs.Spelling.{Text, spelling}
-use Rattle.text.specs.Printing.{textOf, printTests, printed, printOf, filled, printedNumber, printedLength, printNumber, printLength, roomAfter}
+use Rattle.text.specs.Printing.{textOf, printTests, printed, printOf, filled, printedRefusal, printedLength, printNumber, printMissing, printLength, roomAfter}
 use Rattle.text.specs.Claims.{OfLength, Holds, Prints, ZeroLine}
 use Rattle.text.proofs.Rooms.{accepted-text}
 use Rattle.text.proofs.Lengths.{line-between}
 
 -- decode refuses with 1, 7 or 8: with a number that a short room never gets
 pub decode-number : (flags w : ℕ) (r : Refusal) → decodeOf flags w ≡ NotDecoded r → (0 < number r) × (number r < 12)
-decode-number flags w r p = go (ltb allFlags flags) (absent (describe w)) (not (eqb (missing flags w) 0)) (decode-refused flags w r p)
+decode-number flags w r p = go (ltb allFlags flags) (absent (describe w)) (not (eqb (missing flags w) 0)) (missing flags w) (decode-refused flags w r p)
   where
     at : {q : Refusal} → q ≡ r → (0 < number q) × (number q < 12) → (0 < number r) × (number r < 12)
     at e h = subst (λ (q : Refusal). (0 < number q) × (number q < 12)) e h
 
-    go : (a b c : Bool) → cond a (some Flags) (cond b (some Unlisted) (cond c (some FeatureOff) none)) ≡ some r → (0 < number r) × (number r < 12)
-    go true b c q = let e : Flags ≡ r = cc in at e (omega arith, omega arith)
-    go false true c q = let e : Unlisted ≡ r = cc in at e (omega arith, omega arith)
-    go false false true q = let e : FeatureOff ≡ r = cc in at e (omega arith, omega arith)
-    go false false false q = let z : _≡_ {A = ℕ} 0 1 = cc in absurd (omega arith)
+    go : (a b c : Bool) (sum : ℕ) → cond a (some Flags) (cond b (some Unlisted) (cond c (some (FeatureOff sum)) none)) ≡ some r → (0 < number r) × (number r < 12)
+    go true b c sum q = let e : Flags ≡ r = cc in at e (omega arith, omega arith)
+    go false true c sum q = let e : Unlisted ≡ r = cc in at e (omega arith, omega arith)
+    go false false true sum q = let e : FeatureOff sum ≡ r = cc in at e (omega arith, omega arith)
+    go false false false sum q = let z : _≡_ {A = ℕ} 0 1 = cc in absurd (omega arith)
 
 -- what comes of putting t, if a word has it, at the start of a room: by decode's number, the number given, how much was put,
 -- and what the room then holds. Q is known of the t of an accepted word.
@@ -114,10 +116,10 @@ module _ (Q : Type 0) (flags w : ℕ) (t room : List ℕ) (about : (i : Instruct
           rw (room-refused flags w (length room) (length t) r e, e) (refused h l)
       by-answer (Accepted i) e = rw (room-passed flags w (length room) (length t) i e, e) (by-room (ltb (length room) (length t)) refl (about i e))
 
--- a print's number and length, by its failure
-printed-number : (o : Option Refusal) (t : Text) → printedNumber (printed o t) ≡ refusalNumber o
-printed-number none t = refl
-printed-number (some r) t = refl
+-- a print's refusal and length, by its failure
+printed-refusal : (o : Option Refusal) (t : Text) → printedRefusal (printed o t) ≡ o
+printed-refusal none t = refl
+printed-refusal (some r) t = refl
 
 printed-length : (o : Option Refusal) (t : Text) → printedLength (printed o t) ≡ putLength o t
 printed-length none t = refl
@@ -128,10 +130,15 @@ outcome : (flags w : ℕ) (room : List ℕ)
     Outcome (OfLength 1 47 (textOf w)) (textOf w) room (decodeNumber flags w) (printNumber flags w n) (printLength flags w n) (roomAfter flags w room))
 unfolding printOf roomAfter
 outcome flags w room =
-    rw (printed-number (firstFailure (printTests flags w (length room))) (textOf w), printed-length (firstFailure (printTests flags w (length room))) (textOf w))
+    rw (printed-refusal (firstFailure (printTests flags w (length room))) (textOf w), printed-length (firstFailure (printTests flags w (length room))) (textOf w))
     (put-outcome (OfLength 1 47 (textOf w)) flags w (textOf w) room (λ i e. rw (accepted-text flags w i e) (line-between i (accepted-in-range flags w i e))))
 
--- which number print answers, and what it leaves in the room
+hands-back : (flags w n : ℕ) → HandsBack flags w (printNumber flags w n) (printMissing flags w n)
+unfolding printOf
+hands-back flags w n =
+    rw (printed-refusal (firstFailure (printTests flags w n)) (textOf w)) (handed flags w (printTests flags w n) (room-fair flags w n (length (textOf w))))
+
+-- what print answers, and what it leaves in the room
 pub prints : (flags w : ℕ) (room : List ℕ) → Prints flags w room
 prints flags w room =
     let o = outcome flags w room in
@@ -140,6 +147,7 @@ prints flags w room =
       gives-1 = same 1 (omega arith) (omega arith) o;
       gives-7 = same 7 (omega arith) (omega arith) o;
       gives-8 = same 8 (omega arith) (omega arith) o;
+      hands-back = hands-back flags w (length room);
       gives-12 = gives-12 o;
       refused = unchanged o;
       printed = holds o;

@@ -5,11 +5,12 @@ use mathlib.Core.List.{List, _++_, map}
 use Prim.Native.Nat.{ℕ, _+_, _≤_, _<_}
 use lib.ListN.{length, take, drop}
 use Rattle.isa.specs.Answers.{decodeNumber}
+use Rattle.isa.specs.Claims.{HandsBack}
 use Rattle.names.specs.declared.TileName.{TileName}
 use Rattle.names.specs.Names.{Shortest}
 use Rattle.text.specs.Ascii.{ascii}
 use Rattle.text.specs.Spelling.{Text, nameText, braced}
-use Rattle.text.specs.Printing.{textOf, printNumber, printLength, roomAfter}
+use Rattle.text.specs.Printing.{textOf, printNumber, printMissing, printLength, roomAfter}
 
 -- a text of at least `least` bytes and at most `most`
 pub record OfLength (least most : ℕ) (t : Text) : Type 0 where
@@ -25,12 +26,13 @@ pub record Holds (t : Text) (n : ℕ) (before after : List ℕ) : Type 0 where
   pub rest : drop n after ≡ drop n before
   pub size : length after ≡ length before
 
--- which number print answers, and what it leaves in the room
+-- what print answers, and what it leaves in the room
 pub record Prints (flags w : ℕ) (room : List ℕ) : Type 0 where
   pub accepts : (printNumber flags w (length room) ≡ 0) ↔ (decodeNumber flags w ≡ 0) × (length (textOf w) ≤ length room)
   pub gives-1 : (printNumber flags w (length room) ≡ 1) ↔ (decodeNumber flags w ≡ 1)
   pub gives-7 : (printNumber flags w (length room) ≡ 7) ↔ (decodeNumber flags w ≡ 7)
   pub gives-8 : (printNumber flags w (length room) ≡ 8) ↔ (decodeNumber flags w ≡ 8)
+  pub hands-back : HandsBack flags w (printNumber flags w (length room)) (printMissing flags w (length room))
   pub gives-12 : (printNumber flags w (length room) ≡ 12) ↔ (decodeNumber flags w ≡ 0) × (length room < length (textOf w))
   pub refused : (printNumber flags w (length room) ≡ 0 → ⊥) → (roomAfter flags w room ≡ room) × (printLength flags w (length room) ≡ 0)
   pub printed : printNumber flags w (length room) ≡ 0 → Holds (textOf w) (printLength flags w (length room)) room (roomAfter flags w room)

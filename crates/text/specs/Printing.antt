@@ -1,9 +1,9 @@
--- What print answers and what it leaves in the room (document 01, "Text" and "Refusal numbers").
+-- What print answers and what it leaves in the room (document 01, "Text" and "Refusal numbers", and document 02, C-15).
 use mathlib.Core.List.{List, [], _++_}
 use mathlib.Core.Option.{Option, none, some}
 use Prim.Native.Nat.{ℕ}
 use lib.ListN.{length, drop}
-use Rattle.isa.specs.Refusals.{number, Test, firstFailure}
+use Rattle.isa.specs.Refusals.{refusalNumber, refusalMissing, Test, firstFailure}
 use Rattle.isa.specs.Answers.{describe, roomTests}
 use Rattle.isa.specs.declared.Instruction.{Instruction}
 use Rattle.isa.specs.declared.Refusal.{Refusal}
@@ -39,10 +39,16 @@ filled (some r) t room = room
 unfoldable pub roomAfter : ℕ → ℕ → List ℕ → List ℕ
 roomAfter flags w room = filled (firstFailure (printTests flags w (length room))) (textOf w) room
 
--- the paper's number and value of an answer
+-- the refusal of an answer, and the paper's number, sum and value
+abbrev pub printedRefusal : Printed → Option Refusal
+printedRefusal (Length n) = none
+printedRefusal (Refused r) = some r
+
 abbrev pub printedNumber : Printed → ℕ
-printedNumber (Length n) = 0
-printedNumber (Refused r) = number r
+printedNumber a = refusalNumber (printedRefusal a)
+
+abbrev pub printedMissing : Printed → ℕ
+printedMissing a = refusalMissing (printedRefusal a)
 
 abbrev pub printedLength : Printed → ℕ
 printedLength (Length n) = n
@@ -51,6 +57,9 @@ printedLength (Refused r) = 0
 -- and of print's answer, for a room of so many bytes
 abbrev pub printNumber : ℕ → ℕ → ℕ → ℕ
 printNumber flags w room = printedNumber (printOf flags w room)
+
+abbrev pub printMissing : ℕ → ℕ → ℕ → ℕ
+printMissing flags w room = printedMissing (printOf flags w room)
 
 abbrev pub printLength : ℕ → ℕ → ℕ → ℕ
 printLength flags w room = printedLength (printOf flags w room)

@@ -7,7 +7,7 @@ ghost use mathlib.Core.List.{_++_};
 ghost use Prim.Native.Nat.{_≤_};
 ghost use lib.ListN.{length, take, drop};
 ghost use Rattle.isa.specs.Table.{inRange};
-ghost use Rattle.text.specs.Printing.{printOf, roomAfter, printedNumber, printedLength, printNumber, printLength};
+ghost use Rattle.text.specs.Printing.{printOf, roomAfter, printedNumber, printedMissing, printedLength, printNumber, printMissing, printLength};
 ghost use Rattle.text.specs.Put.{printedIn, filledWith};
 use isa::Decoded;
 use isa::Instruction;
@@ -24,6 +24,7 @@ pub fn print(flags: u32, word: u32, room: &mut [u8]) -> Printed
     ensures { λ r. ⌜ r ≡ printOf flags word (length (now (room .entry))) ⌝ }
     ensures { λ _. ⌜ now (room .exit) ≡ roomAfter flags word (now (room .entry)) ⌝ }
     ensures { λ r. ⌜ printedNumber r ≡ printNumber flags word (length (now (room .entry))) ⌝ }
+    ensures { λ r. ⌜ printedMissing r ≡ printMissing flags word (length (now (room .entry))) ⌝ }
     ensures { λ r. ⌜ printedLength r ≡ printLength flags word (length (now (room .entry))) ⌝ }
 {
     match isa::decode(flags, word) {

@@ -1,8 +1,11 @@
 // Compares print and read, with every feature on, with a list on standard input. A line of the list is a word in eight
 // hex digits, a space, and its text, or - if print must refuse it as unlisted; a line that starts with # is a comment.
+// Then tells how many of its words miss which features where none is on.
 use checks::Number;
 use checks::Outcome;
+use checks::Sums;
 use checks::Tally;
+use isa::Refusal;
 use libc::STDIN_FILENO;
 use libc::STDOUT_FILENO;
 use reader::Reading;
@@ -22,6 +25,12 @@ const TEXT_ROOM: usize = 48;
 // Where a line's text starts.
 const TEXT_AT: usize = 9;
 
+// What comes of a list, and what its words miss where no feature is on.
+pub struct Compared {
+    tally: Tally,
+    sums: Sums,
+}
+
 fn main() {
     let mut list = checks::input_room();
     let n = io::read_full(STDIN_FILENO, &mut list);
@@ -29,26 +38,43 @@ fn main() {
         io::write_all(STDOUT_FILENO, b"input too long\n");
         return;
     }
-    checks::report(b"lines: ", compare(&list[..n]));
+    report(compare(&list[..n]));
+}
+
+fn report(c: Compared) {
+    checks::report(b"lines: ", c.tally);
+    checks::report_sums(c.sums);
 }
 
 // A last line with no line feed is malformed: the list may have been cut there.
-fn compare(list: &[u8]) -> Tally {
-    let mut t = Tally {
+fn compare(list: &[u8]) -> Compared {
+    let mut tally = Tally {
         lines: 0,
         agreed: 0,
         malformed: 0,
     };
+    let mut sums = checks::no_sums();
     let mut at = 0;
     while at < list.len() {
         let end = checks::field_end(list, at, b'\n');
         if end == list.len() {
-            return checks::counted(t, Outcome::Malformed);
+            tally = checks::counted(tally, Outcome::Malformed);
+            return Compared { tally, sums };
         }
-        t = checks::counted(t, line_outcome(&list[at..end]));
+        let line = &list[at..end];
+        tally = checks::counted(tally, line_outcome(line));
+        sums = checks::with_sum(sums, missing_in(line));
         at = end + 1;
     }
-    t
+    Compared { tally, sums }
+}
+
+// What the word of a line misses where no feature is on, if the line has one.
+fn missing_in(line: &[u8]) -> u32 {
+    match word_of(line) {
+        Number::Value(w) => missing(0, w),
+        Number::Malformed => 0,
+    }
 }
 
 // What comes of a line, which is lent without its line feed.
@@ -68,19 +94,27 @@ fn line_outcome(line: &[u8]) -> Outcome {
     if line[TEXT_AT - 1] != b' ' {
         return Outcome::Malformed;
     }
-    match checks::hexadecimal_of(&line[..TEXT_AT - 1]) {
+    match word_of(line) {
         Number::Value(w) => word_outcome(w, &line[TEXT_AT..]),
         Number::Malformed => Outcome::Malformed,
     }
 }
 
-// A line agrees if print does in a room of 48 bytes, in one of the text's length, and in one a byte shorter, and if read
-// gives the word back.
+// The word at the start of a line.
+fn word_of(line: &[u8]) -> Number {
+    if line.len() < TEXT_AT {
+        return Number::Malformed;
+    }
+    checks::hexadecimal_of(&line[..TEXT_AT - 1])
+}
+
+// A line agrees if print does in a room of 48 bytes, in one of the text's length, and in one a byte shorter, if read gives
+// the word back, and if its features are those that it misses.
 fn word_outcome(w: u32, listed: &[u8]) -> Outcome {
     let mut room = [FILL; TEXT_ROOM];
     let agrees = match text::print(isa::ALL_FLAGS, w, &mut room) {
         Printed::Length(n) => text_agrees(w, n, &room, listed),
-        Printed::Refused(refusal) => refusal_agrees(w, isa::number(refusal), &room, listed),
+        Printed::Refused(refusal) => refusal_agrees(w, refusal, &room, listed),
     };
     if agrees {
         Outcome::Agreed
@@ -103,6 +137,9 @@ fn text_agrees(w: u32, n: usize, room: &[u8], listed: &[u8]) -> bool {
     }
     if !reads_as(listed, w) {
         return disagrees(w, b"not read back: ", listed, listed);
+    }
+    if !features_agree(w) {
+        return disagrees(w, b"misses other features than it needs: ", listed, listed);
     }
     true
 }
@@ -155,6 +192,34 @@ fn reads_as(line: &[u8], w: u32) -> bool {
     }
 }
 
+// Whether a word misses the same features with none on as with all others on, and none with these alone.
+fn features_agree(w: u32) -> bool {
+    let sum = missing(0, w);
+    if sum == 0 {
+        return false;
+    }
+    if isa::ALL_FLAGS < sum {
+        return false;
+    }
+    if missing(isa::ALL_FLAGS - sum, w) != sum {
+        return false;
+    }
+    let mut room = [FILL; TEXT_ROOM];
+    match text::print(sum, w, &mut room) {
+        Printed::Length(_) => true,
+        Printed::Refused(_) => false,
+    }
+}
+
+// The sum that print hands back; 0 if none.
+fn missing(flags: u32, w: u32) -> u32 {
+    let mut room = [FILL; TEXT_ROOM];
+    match text::print(flags, w, &mut room) {
+        Printed::Length(_) => 0,
+        Printed::Refused(refusal) => isa::missing(refusal),
+    }
+}
+
 // Prints into the first n bytes of room, or into all if there are fewer.
 fn print_into(w: u32, n: usize, room: &mut [u8]) -> Printed {
     if n < room.len() {
@@ -180,8 +245,8 @@ fn marks_unlisted(listed: &[u8]) -> bool {
 }
 
 // Whether a refusal is what is listed, and left room as it was; if not, a line shows both.
-fn refusal_agrees(w: u32, number: u32, room: &[u8], listed: &[u8]) -> bool {
-    if number == UNLISTED {
+fn refusal_agrees(w: u32, refusal: Refusal, room: &[u8], listed: &[u8]) -> bool {
+    if isa::number(refusal) == UNLISTED {
         if marks_unlisted(listed) {
             if untouched(room) {
                 return true;
@@ -190,7 +255,7 @@ fn refusal_agrees(w: u32, number: u32, room: &[u8], listed: &[u8]) -> bool {
     }
     io::print_hex(STDOUT_FILENO, w as u64, 8);
     io::write_all(STDOUT_FILENO, b": refused ");
-    io::print_decimal(STDOUT_FILENO, number as u64);
+    checks::write_refusal(STDOUT_FILENO, refusal);
     write_listed(listed);
     false
 }

@@ -1,6 +1,6 @@
 //! One word executed, and a list of words run, on lent vectors, predicates and ZA.
 
-use super::{Instruction, OuterProduct, Source, Sources, decode};
+use super::{Instruction, OuterProduct, Refused, Source, Sources, decode};
 use std::array;
 
 /// What all words of a list are executed with: features, modes, and the vector length in bytes.
@@ -19,53 +19,53 @@ type Groups<const K: usize> = Vec<[i32; K]>;
 pub const MOST_WORDS: usize = 65_536;
 
 /// Executes one word, or refuses it by 1 to 5 or 7 to 10.
-pub fn execute(bench: Bench, z: &[u8], p: &[u8], za: &mut [u8], word: u32) -> Result<(), u32> {
+pub fn execute(bench: Bench, z: &[u8], p: &[u8], za: &mut [u8], word: u32) -> Result<(), Refused> {
     check(bench, z, p, za)?;
     step(bench, z, p, za, word)
 }
 
-/// Runs a list up to the first word refused: the number of words executed, and the refusal or 0.
-pub fn run(bench: Bench, z: &[u8], p: &[u8], za: &mut [u8], words: &[u32]) -> (usize, u32) {
-    if let Err(refusal) = check(bench, z, p, za) {
-        return (0, refusal);
+/// Runs a list up to the first word refused: the number of words executed, and the refusal.
+pub fn run(bench: Bench, z: &[u8], p: &[u8], za: &mut [u8], words: &[u32]) -> (usize, Option<Refused>) {
+    if let Err(refused) = check(bench, z, p, za) {
+        return (0, Some(refused));
     }
     if words.len() > MOST_WORDS {
-        return (0, 6);
+        return (0, Some(Refused::by(6)));
     }
     for (count, &word) in words.iter().enumerate() {
-        if let Err(refusal) = step(bench, z, p, za, word) {
-            return (count, refusal);
+        if let Err(refused) = step(bench, z, p, za, word) {
+            return (count, Some(refused));
         }
     }
-    (words.len(), 0)
+    (words.len(), None)
 }
 
 /// Refusals 1 to 5, which no word has a part in.
-fn check(bench: Bench, z: &[u8], p: &[u8], za: &[u8]) -> Result<(), u32> {
+fn check(bench: Bench, z: &[u8], p: &[u8], za: &[u8]) -> Result<(), Refused> {
     let vb = bench.vb;
     if bench.flags > 15 {
-        Err(1)
+        Err(Refused::by(1))
     } else if ![16, 32, 64, 128, 256].contains(&vb) {
-        Err(2)
+        Err(Refused::by(2))
     } else if z.len() != 32 * vb {
-        Err(3)
+        Err(Refused::by(3))
     } else if p.len() != 2 * vb {
-        Err(4)
+        Err(Refused::by(4))
     } else if za.len() != vb * vb {
-        Err(5)
+        Err(Refused::by(5))
     } else {
         Ok(())
     }
 }
 
 /// Executes one word on buffers of the right lengths, or refuses it by 7 to 10.
-fn step(bench: Bench, z: &[u8], p: &[u8], za: &mut [u8], word: u32) -> Result<(), u32> {
+fn step(bench: Bench, z: &[u8], p: &[u8], za: &mut [u8], word: u32) -> Result<(), Refused> {
     let instruction = decode(bench.flags, word)?;
     if matches!(instruction, Instruction::Outer(_)) && !bench.streaming {
-        return Err(9);
+        return Err(Refused::by(9));
     }
     if !bench.za_on {
-        return Err(10);
+        return Err(Refused::by(10));
     }
     match instruction {
         Instruction::Outer(op) => match (op.element_bytes, op.products) {

@@ -1,14 +1,14 @@
 //! The numbers that describe an instruction, and their copy into a lent room.
 
-use super::{Instruction, OuterProduct, Sources, decode};
+use super::{Instruction, OuterProduct, Refused, Sources, decode};
 
 /// Writes the numbers of a word to the start of the room, or refuses by 1, 7, 8 or 12.
-pub fn describe(flags: u32, word: u32, room: &mut [u32]) -> Result<(), u32> {
+pub fn describe(flags: u32, word: u32, room: &mut [u32]) -> Result<(), Refused> {
     let fields = match decode(flags, word)? {
         Instruction::Outer(op) => outer(op),
         Instruction::Zero { mask } => [3, mask.into(), 0, 0, 0, 0, 0, 0, 0, 0, 0],
     };
-    let start = room.get_mut(..fields.len()).ok_or(12u32)?;
+    let start = room.get_mut(..fields.len()).ok_or(Refused::by(12))?;
     start.copy_from_slice(&fields);
     Ok(())
 }

@@ -1,5 +1,5 @@
 //! An independent implementation, written from Arm's pseudocode and the rules of the bench, to hold the library
-//! against. Refusals are plain numbers here.
+//! against. Refusals are plain numbers here, and so are the flags that a word lacks.
 
 mod execute;
 mod fields;
@@ -52,13 +52,28 @@ pub struct Source {
     pub pair: bool,
 }
 
-/// The instruction of a word, or refusal 1, 7 or 8.
-pub fn decode(flags: u32, word: u32) -> Result<Instruction, u32> {
-    if flags > SME + I16I64 + MOP4 + SME2 {
-        return Err(1);
+/// A refusal: its number and, beside 8, the sum of the flags that the word needs and that are off, otherwise 0.
+#[derive(Clone, Copy, Debug, PartialEq, Eq)]
+pub struct Refused {
+    pub number: u32,
+    pub missing: u32,
+}
+
+impl Refused {
+    /// A refusal other than 8, which is its number alone.
+    pub fn by(number: u32) -> Refused {
+        Refused { number, missing: 0 }
     }
-    let (instruction, needed) = listed(word).ok_or(7u32)?;
-    if flags & needed == needed { Ok(instruction) } else { Err(8) }
+}
+
+/// The instruction of a word, or refusal 1, 7 or 8.
+pub fn decode(flags: u32, word: u32) -> Result<Instruction, Refused> {
+    if flags > SME + I16I64 + MOP4 + SME2 {
+        return Err(Refused::by(1));
+    }
+    let (instruction, needed) = listed(word).ok_or(Refused::by(7))?;
+    let missing = needed & !flags;
+    if missing == 0 { Ok(instruction) } else { Err(Refused { number: 8, missing }) }
 }
 
 /// The instruction and the features on the line of the encoding table that a word matches.
@@ -117,10 +132,10 @@ fn quarter_tile(word: u32) -> Sources {
 }
 
 /// The word of an instruction, or refusal 11.
-pub fn encode(instruction: Instruction) -> Result<u32, u32> {
+pub fn encode(instruction: Instruction) -> Result<u32, Refused> {
     let op = match instruction {
         Instruction::Outer(op) if in_range(op) => op,
-        Instruction::Outer(_) => return Err(11),
+        Instruction::Outer(_) => return Err(Refused::by(11)),
         Instruction::Zero { mask } => return Ok(0xC008_0000 | u32::from(mask)),
     };
     let second_sign = if op.products == 2 { 0 } else { u32::from(op.second_unsigned) << 21 };

@@ -1,13 +1,13 @@
 //! The word of a line of text, taken apart by the rules for text; the ranges are for `encode` to test.
 
-use super::{Instruction, NAMES, OuterProduct, Source, Sources, decode, encode, shortest};
+use super::{Instruction, NAMES, OuterProduct, Refused, Source, Sources, decode, encode, shortest};
 
 /// The word of a line, or refusal 1, 13 or 8.
-pub fn read(flags: u32, line: &[u8]) -> Result<u32, u32> {
+pub fn read(flags: u32, line: &[u8]) -> Result<u32, Refused> {
     if flags > 15 {
-        return Err(1);
+        return Err(Refused::by(1));
     }
-    let word = instruction(line).and_then(|instruction| encode(instruction).ok()).ok_or(13u32)?;
+    let word = instruction(line).and_then(|instruction| encode(instruction).ok()).ok_or(Refused::by(13))?;
     decode(flags, word).map(|_| word)
 }
 

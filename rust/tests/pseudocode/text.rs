@@ -1,12 +1,12 @@
 //! The text of an instruction, and its copy into a lent room.
 
-use super::{Instruction, OuterProduct, Source, Sources, decode, shortest};
+use super::{Instruction, OuterProduct, Refused, Source, Sources, decode, shortest};
 use std::fmt;
 
 /// Writes the text of a word to the start of the room and gives its length, or refuses by 1, 7, 8 or 12.
-pub fn print(flags: u32, word: u32, room: &mut [u8]) -> Result<usize, u32> {
+pub fn print(flags: u32, word: u32, room: &mut [u8]) -> Result<usize, Refused> {
     let text = decode(flags, word)?.to_string();
-    let start = room.get_mut(..text.len()).ok_or(12u32)?;
+    let start = room.get_mut(..text.len()).ok_or(Refused::by(12))?;
     start.copy_from_slice(text.as_bytes());
     Ok(text.len())
 }

@@ -1,15 +1,18 @@
 //! Counts what cases came to, so that a test can't pass on refusals alone.
 
 use super::{DAMAGES, Damage, LINES};
+use crate::pseudocode::Refused;
 use std::collections::BTreeMap;
 
-/// The accepted words under the lines of the table and under the vector lengths, the refusals under their numbers, and
-/// the damaged lines of text, with those that are texts all the same, under the sorts of damage.
+/// The accepted words under the lines of the table and under the vector lengths, the refusals under their numbers and
+/// those by 8 under what is missing too, and the damaged lines of text, with those that are texts all the same, under
+/// the sorts of damage.
 #[derive(Default)]
 pub struct Tally {
     accepted: [usize; LINES.len()],
     lengths: BTreeMap<usize, usize>,
     refused: [usize; 14],
+    missing: BTreeMap<u32, usize>,
     damaged: BTreeMap<&'static str, [usize; 2]>,
 }
 
@@ -27,16 +30,19 @@ impl Tally {
         }
     }
 
-    /// Counts a refusal under its number.
-    pub fn refuse(&mut self, number: u32) {
-        self.refused[number as usize] += 1;
+    /// Counts a refusal under its number, and under the sum of missing flags if it has a place for one.
+    pub fn refuse(&mut self, refused: Refused) {
+        self.refused[refused.number as usize] += 1;
+        if refused.number == 8 {
+            *self.missing.entry(refused.missing).or_default() += 1;
+        }
     }
 
     /// Counts an answer about a word.
-    pub fn count<T>(&mut self, word: u32, answer: &Result<T, u32>) {
+    pub fn count<T>(&mut self, word: u32, answer: &Result<T, Refused>) {
         match answer {
             Ok(_) => self.accept(word),
-            Err(number) => self.refuse(*number),
+            Err(refused) => self.refuse(*refused),
         }
     }
 
@@ -58,6 +64,14 @@ impl Tally {
                 assert_eq!(count, 0, "refusal {number} has no place here");
             }
         }
+    }
+
+    /// Fails unless every sum of flags that a word can lack came at least so often, and no other; the words of one line
+    /// need two features, and can lack either or both.
+    pub fn assert_missing(&self, least: usize) {
+        println!("refused for missing flags {:?}", self.missing);
+        assert!(self.missing.keys().eq(&[1, 2, 4, 2 + 4, 8]), "other sums of missing flags");
+        assert!(self.missing.values().all(|&count| count >= least), "a sum of missing flags is too rare");
     }
 
     /// Fails unless words were accepted at every vector length, at least so often, and at no other.

@@ -19,7 +19,7 @@ returns-2 c =
     let r = c .before .before in
     let d = sym (r .before .before .decode .ensures .0) ∙ r .r .given .1 in
     let f = r .before .before .before .before .args .fields .now in
-    (c .number .ensures ∙ sym (call-refused _ _ _ d (length f)), sym (fields-refused _ _ _ d f))
+    (c .refused .ensures ∙ sym (call-refused _ _ _ d (length f)), sym (fields-refused _ _ _ d f))
 
 pub birdaghol-describe-spec : {M : Type 1} → statement M
 birdaghol-describe-spec =

@@ -4,7 +4,7 @@ use mathlib.Core.List.{List}
 use Prim.Native.Nat.{ℕ}
 use native.Mathlib.Omega.{arith}
 use Rattle.birdaghol.specs.Calls.{packedPrinted}
-use Rattle.birdaghol.proofs.Packing.{value-alone, refusal-alone, printed-short}
+use Rattle.birdaghol.proofs.Packing.{value-alone, printed-short}
 use borrow.Author.Needs.{needs}
 use Rattle.birdaghol.proofs.birdaghol_print.Statement.{statement}
 use Rattle.birdaghol.proofs.birdaghol_print.Tie as tie
@@ -30,7 +30,7 @@ returns-2 : tie.Need-returns-2
 returns-2 c =
     let r = c .before .before in
     let p = r .before .before .before .before .print .ensures in
-    (c .number .ensures ∙ refusal-alone _ ∙ sym (ap packedPrinted (sym (p .0) ∙ r .r .given .1)), p .1 .0)
+    (c .refused .ensures ∙ sym (ap packedPrinted (sym (p .0) ∙ r .r .given .1)), p .1 .0)
 
 pub birdaghol-print-spec : {M : Type 1} → statement M
 birdaghol-print-spec =
@@ -41,7 +41,6 @@ birdaghol-print-spec =
     mul-result
     (λ c. search needs)
     (λ c κs. search needs)
-    (λ c. search needs)
     (λ c. search needs)
     returns
     (λ c. search needs)

@@ -9,7 +9,7 @@ use Rattle.birdaghol.proofs.hand_out.Statement.{statement}
 use Rattle.birdaghol.proofs.hand_out.Tie as tie
 
 returns : tie.Need-returns
-returns c = let l = lt-ltb _ _ (c .before .if1 .taken) in (rw l (c .number .ensures), rw l)
+returns c = let l = lt-ltb _ _ (c .before .if1 .taken) in (rw l (c .refused .ensures), rw l)
 
 returns-2 : tie.Need-returns-2
 returns-2 c =

@@ -16,6 +16,7 @@ sweep-spec =
     (tie.spec
     Inv-loop
     μ-loop
+    (λ c κs. tt)
     (λ c. omega arith)
     (λ c. omega arith)
     (λ c κs. tt)

@@ -2,7 +2,7 @@
 use mathlib.Core.Path.{_∙_, sym, ap}
 use lib.ListN.{length}
 use Rattle.isa.proofs.Theorems.{accepted-in-range}
-use Rattle.text.specs.Printing.{printedNumber, printedLength}
+use Rattle.text.specs.Printing.{printedNumber, printedMissing, printedLength}
 use Rattle.text.proofs.Rooms.{print-accepted, room-accepted, print-refused, unfilled}
 use borrow.Author.Needs.{needs}
 use Rattle.text.proofs.print.Statement.{statement}
@@ -20,7 +20,7 @@ returns c =
     let d = sym (arm .before .before .decode .ensures .0) ∙ arm .i .given .1 in
     let p = done .print-line .ensures in
     let e = p .0 ∙ sym (print-accepted _ _ _ _ d) in
-    (e, (p .1 ∙ sym (room-accepted _ _ _ _ d), (ap printedNumber e, ap printedLength e)))
+    (e, (p .1 ∙ sym (room-accepted _ _ _ _ d), (ap printedNumber e, (ap printedMissing e, ap printedLength e))))
 
 returns-2 : tie.Need-returns-2
 returns-2 c =
@@ -28,7 +28,7 @@ returns-2 c =
     let d = sym (arm .before .before .decode .ensures .0) ∙ arm .r .given .1 in
     let room = arm .before .before .before .before .args .room .now in
     let e = sym (print-refused _ _ (length room) _ d) in
-    (e, (sym (unfilled _ _ room _ d), (ap printedNumber e, ap printedLength e)))
+    (e, (sym (unfilled _ _ room _ d), (ap printedNumber e, (ap printedMissing e, ap printedLength e))))
 
 pub print-spec : {M : Type 1} → statement M
 print-spec =

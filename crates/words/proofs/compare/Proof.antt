@@ -6,10 +6,10 @@ use Rattle.words.proofs.compare.Statement.{statement}
 use Rattle.words.proofs.compare.Tie as tie
 
 abbrev Inv-loop : tie.InvT-loop
-Inv-loop list t₀ at₀ t at = at ≤ length list
+Inv-loop list tally₀ sums₀ at₀ tally sums at = at ≤ length list
 
 abbrev μ-loop : tie.MeasureT-loop
-μ-loop list t₀ at₀ t at = length list - at
+μ-loop list tally₀ sums₀ at₀ tally sums at = length list - at
 
 pub compare-spec : {M : Type 1} → statement M
 compare-spec =
@@ -17,6 +17,7 @@ compare-spec =
     (tie.spec
     Inv-loop
     μ-loop
+    (λ c κs. tt)
     (λ c. omega arith)
     (λ c κs. tt)
     (λ c κs. tt)
@@ -24,6 +25,8 @@ compare-spec =
     (λ c. omega arith)
     (λ c. omega arith)
     (λ c. omega arith)
+    (λ c κs. tt)
+    (λ c κs. tt)
     (λ c κs. tt)
     (λ c κs. tt)
     (λ c. omega arith)

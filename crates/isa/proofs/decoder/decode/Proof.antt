@@ -3,15 +3,17 @@ use mathlib.Core.Path.{_≡_, _∙_, sym, ap}
 use Prim.Native.Nat.{ℕ, _≤_, _<_}
 use borrow.Author.Tests.{ltb-true, ltb-false, not-true, not-false}
 use Rattle.isa.specs.Table.{allFlags}
-use Rattle.isa.specs.Answers.{decodeOf, decodedNumber, decodeNumber}
+use Rattle.isa.specs.Answers.{decodeOf, decodedNumber, decodedMissing, decodeNumber, decodeMissing}
 use Rattle.isa.specs.declared.Decoded.{Decoded}
+use Rattle.isa.specs.declared.Decoded.the-variants.{Refused as NotDecoded}
 use Rattle.isa.proofs.Answers.{decode-flags, decode-lacking, decode-open}
 use Rattle.isa.proofs.decoder.decode.Statement.{statement}
 use Rattle.isa.proofs.decoder.decode.Tie as tie
 
--- an answer that is the definition's has its number
-answers : (flags w : ℕ) {r : Decoded} → r ≡ decodeOf flags w → (r ≡ decodeOf flags w) × (decodedNumber r ≡ decodeNumber flags w)
-answers flags w p = (p, ap decodedNumber p)
+-- an answer that is the definition's has its number and its sum
+answers : (flags w : ℕ) {r : Decoded} → r ≡ decodeOf flags w
+    → (r ≡ decodeOf flags w) × ((decodedNumber r ≡ decodeNumber flags w) × (decodedMissing r ≡ decodeMissing flags w))
+answers flags w p = (p, (ap decodedNumber p, ap decodedMissing p))
 
 -- flags that are no sum of features, or that are one
 illegal : (c : tie.Then1) → allFlags < c .before .before .args .flags
@@ -25,8 +27,11 @@ returns c = answers _ _ (sym (decode-flags _ _ (illegal c)))
 
 returns-2 : tie.Need-returns-2
 returns-2 c =
-    let l = c .before in
-    answers _ _ (sym (decode-lacking _ _ (legal (l .before .before)) (l .before .line-of .ensures) (l .lacking .ensures) (c .if2 .taken)))
+    let t = c .before in
+    let l = t .before in
+    answers _ _
+    (ap NotDecoded (c .feature-off .ensures)
+    ∙ sym (decode-lacking _ _ (legal (l .before .before)) (l .before .line-of .ensures) (l .lacking .ensures) (t .if2 .taken)))
 
 returns-3 : tie.Need-returns-3
 returns-3 c =
@@ -41,6 +46,7 @@ decode-spec =
     (tie.spec
     (λ c κs. tt)
     returns
+    (λ c κs. tt)
     (λ c κs. tt)
     (λ c κs. tt)
     returns-2

@@ -7,16 +7,16 @@ use Rattle.isa.specs.Table.{allFlags}
 use Rattle.isa.specs.Answers.{encodeOf}
 use Rattle.text.specs.Spelling.{Text}
 use Rattle.reader.specs.declared.Reading.{Reading}
-use Rattle.reader.specs.Answers.{readOf, readingNumber, readingWord, readNumber, readWord}
+use Rattle.reader.specs.Answers.{readOf, readingNumber, readingMissing, readingWord, readNumber, readMissing, readWord}
 use Rattle.reader.specs.Guess.{guessOf}
 use Rattle.reader.proofs.Readings.{read-flags, guess-word, guess-refused}
 use Rattle.reader.proofs.line.read.Statement.{statement}
 use Rattle.reader.proofs.line.read.Tie as tie
 
--- an answer that is the definition's has its number and its word
+-- an answer that is the definition's has its number, its sum and its word
 answers : (flags : ℕ) (t : Text) {r : Reading} → r ≡ readOf flags t
-    → (r ≡ readOf flags t) × ((readingNumber r ≡ readNumber flags t) × (readingWord r ≡ readWord flags t))
-answers flags t p = (p, (ap readingNumber p, ap readingWord p))
+    → (r ≡ readOf flags t) × ((readingNumber r ≡ readNumber flags t) × ((readingMissing r ≡ readMissing flags t) × (readingWord r ≡ readWord flags t)))
+answers flags t p = (p, (ap readingNumber p, (ap readingMissing p, ap readingWord p)))
 
 -- flags that are no sum of features, or that are one
 illegal : (c : tie.Then1) → allFlags < c .before .before .before .args .flags
@@ -37,7 +37,7 @@ returns-2 c =
     let w = c .before .before .before .before in
     let e = w .before .before in
     let h = c .before .before .has-text .ensures in
-    let n = c .before .decode-number .ensures in
+    let n = c .before .check .ensures in
     answers _ _ (c .decide .ensures ∙ rw (h, n) (guess-word _ _ _ (legal (e .before .before)) (encoded e ∙ w .w .given .1)))
 
 returns-3 : tie.Need-returns-3

@@ -4,7 +4,8 @@ use mathlib.Core.Option.{none, some}
 use borrow.Author.Needs.{needs}
 use Rattle.isa.specs.Refusals.{firstFailure}
 use Rattle.replay.specs.Machine.{Machine, on}
-use Rattle.replay.specs.Execution.{machineTests, outcome, outcomeNumber}
+use Rattle.replay.specs.Execution.{machineTests, outcome, outcomeNumber, outcomeMissing}
+use Rattle.replay.specs.declared.Outcome.{Outcome}
 use Rattle.replay.proofs.Tests.{outcome-done, outcome-refused}
 use Rattle.replay.proofs.Execution.{refused-by-bench, refused-by-word, after-by}
 use Rattle.replay.proofs.executor.execute.Statement.{statement}
@@ -16,6 +17,10 @@ machine s = on (s .args .bench) (s .args .z .now) (s .args .p .now) (s .args .za
 abbrev start : tie.After-check-bench → tie.Start
 start c = c .before .before .before .before
 
+-- an answer that is the definition's has its number and its sum
+answers : {A : Type 0} {r a : Outcome} → r ≡ a → A → (r ≡ a) × (A × ((outcomeNumber r ≡ outcomeNumber a) × (outcomeMissing r ≡ outcomeMissing a)))
+answers e left = (e, (left, (ap outcomeNumber e, ap outcomeMissing e)))
+
 passed : (c : tie.After-enum-told) → firstFailure (machineTests (machine (start (c .before .before)))) ≡ none
 passed c = outcome-done _ (sym (c .enum-told .given .1) ∙ c .before .before .check-bench .ensures)
 
@@ -24,7 +29,7 @@ returns c =
     let s = start (c .before .before .before) in
     let h = outcome-refused _ _ (sym (c .before .r .given .1) ∙ c .before .before .before .check-bench .ensures) in
     let f = refused-by-bench (machine s) (s .args .word) _ h in
-    (sym (ap outcome f), (sym (ap (λ (m : Machine). m .za) (after-by (machine s) (s .args .word) (some _) f)), sym (ap (λ o. outcomeNumber (outcome o)) f)))
+    answers (sym (ap outcome f)) (sym (ap (λ (m : Machine). m .za) (after-by (machine s) (s .args .word) (some _) f)))
 
 returns-2 : tie.Need-returns-2
 returns-2 c =
@@ -33,7 +38,7 @@ returns-2 c =
     let f = refused-by-word (machine s) (s .args .word) (passed t) in
     let e = c .before .before .execute-word .ensures in
     let r = e .0 ∙ sym (ap outcome f) in
-    (r, (e .1 ∙ sym (ap (λ (m : Machine). m .za) (after-by (machine s) (s .args .word) _ f)), ap outcomeNumber r))
+    answers r (e .1 ∙ sym (ap (λ (m : Machine). m .za) (after-by (machine s) (s .args .word) _ f)))
 
 pub execute-spec : {M : Type 1} → statement M
 execute-spec =

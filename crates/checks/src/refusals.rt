@@ -1,0 +1,54 @@
+// A refusal as a person reads it.
+ghost use Prim.Native.Nat.{_<_};
+use isa::Refusal;
+
+// Writes its number and what it means; beside 8, the features that the word needs and that are off.
+pub fn write_refusal(fd: i32, r: Refusal) {
+    io::print_decimal(fd, isa::number(r) as u64);
+    io::write_all(fd, b": ");
+    write_meaning(fd, r);
+}
+
+fn write_meaning(fd: i32, r: Refusal) -> bool {
+    match r {
+        Refusal::Flags => io::write_all(fd, b"flags are above 15"),
+        Refusal::VectorLength => io::write_all(fd, b"no legal vector length"),
+        Refusal::ZLength => io::write_all(fd, b"Z has another length"),
+        Refusal::PLength => io::write_all(fd, b"P has another length"),
+        Refusal::ZaLength => io::write_all(fd, b"ZA has another length"),
+        Refusal::ListLength => io::write_all(fd, b"the list is too long"),
+        Refusal::Unlisted => io::write_all(fd, b"no listed word"),
+        Refusal::FeatureOff { missing } => write_needs(fd, missing),
+        Refusal::StreamingOff => io::write_all(fd, b"needs streaming mode"),
+        Refusal::ZaOff => io::write_all(fd, b"needs ZA"),
+        Refusal::OutOfRange => io::write_all(fd, b"out of range"),
+        Refusal::Room => io::write_all(fd, b"the room is too short"),
+        Refusal::NotText => io::write_all(fd, b"the text of no listed word"),
+    }
+}
+
+// The features of a sum of flags, by name.
+fn write_needs(fd: i32, sum: u32) -> bool {
+    io::write_all(fd, b"needs ");
+    write_feature(fd, sum, 1, b"SME");
+    write_feature(fd, sum, 2, b"I16I64");
+    write_feature(fd, sum, 4, b"MOP4");
+    write_feature(fd, sum, 8, b"SME2")
+}
+
+// A feature's name, if the sum has its flag, with a comma or an "and" behind those of the lower flags.
+fn write_feature(fd: i32, sum: u32, flag: u32, name: &[u8]) -> bool
+    requires { ⌜ 0 < flag ⌝ }
+{
+    if sum / flag % 2 == 0 {
+        return true;
+    }
+    if sum % flag != 0 {
+        if sum / flag == 1 {
+            io::write_all(fd, b" and ");
+        } else {
+            io::write_all(fd, b", ");
+        }
+    }
+    io::write_all(fd, name)
+}
