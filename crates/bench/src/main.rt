@@ -1,5 +1,5 @@
-// Runs the bench examples of document 01, and some of the 2-way outer products, and writes what comes of each: its number
-// (0: done), then what it left.
+// Runs the bench examples of document 01, some of the 2-way outer products, and words that miss features, and writes what
+// comes of each: 0 or its refusal, with the sum beside 8, then what it left.
 ghost use mathlib.Core.Path.{_≡_};
 ghost use Prim.Native.Nat.{_+_, _≤_};
 ghost use lib.ListN.{length};
@@ -204,8 +204,10 @@ fn modes() {
     );
 }
 
-// What a word misses, executed and in a run; 8 comes before the modes are tested.
+// What a word misses: printed, executed and in a run; 8 comes before the modes are tested.
 fn features() {
+    text_of(14, UMOPA);
+    text_of(2, 0x8100_8010);
     let z = plus_one();
     let p = [0xFFu8; 32];
     example(b"umopa, flags 14", with_flags(14), &z, &p, 0xFF, UMOPA);
@@ -359,11 +361,11 @@ fn example(name: &[u8], bench: Bench, z: &[u8], p: &[u8], start: u8, word: u32) 
     example_on(name, bench, z, p, &mut za, start, word);
 }
 
-// Executes a word on ZA: its number, which bytes differ then from the start, and element (0, 0) of ZA0.S.
+// Executes a word on ZA: what it answers, which bytes differ then from the start, and element (0, 0) of ZA0.S.
 fn example_on(name: &[u8], bench: Bench, z: &[u8], p: &[u8], za: &mut [u8], start: u8, word: u32) {
     let outcome = replay::execute(bench, z, p, za, word);
     io::write_all(STDOUT_FILENO, name);
-    number_of(b": ", outcome);
+    answer(b": ", outcome);
     let n = changed(za, start);
     decimal(b", changed ", n as u64);
     if 0 < n {
@@ -389,33 +391,31 @@ fn in_turn_on(name: &[u8], z: &[u8], p: &[u8], za: &mut [u8], one: u32, two: u32
     let first = replay::execute(on(), z, p, za, one);
     let second = replay::execute(on(), z, p, za, two);
     io::write_all(STDOUT_FILENO, name);
-    number_of(b": ", first);
-    number_of(b", ", second);
+    answer(b": ", first);
+    answer(b", ", second);
     hex(b", ", element32(za, 4));
     hex(b"", element32(za, 0));
     io::write_all(STDOUT_FILENO, b"\n");
 }
 
-// Runs a list from a ZA of zeros; its count, its number and element (0, 0) of ZA0.S.
+// Runs a list from a ZA of zeros; its count, its answer and element (0, 0) of ZA0.S.
 fn list_example(name: &[u8], z: &[u8], p: &[u8], words: &[u32]) {
     let mut za = [0u8; 256];
     let ended = replay::run(on(), z, p, &mut za, words);
     let outcome = ended.outcome;
     io::write_all(STDOUT_FILENO, name);
     decimal(b": count ", ended.count as u64);
-    number_of(b", ", outcome);
+    answer(b", ", outcome);
     decimal(b", za0.s (0, 0) ", element32(&za, 0));
     io::write_all(STDOUT_FILENO, b"\n");
 }
 
-// The number of an outcome, and beside 8 the sum.
-fn number_of(before: &[u8], outcome: Outcome) -> bool {
+// 0, or the refusal.
+fn answer(before: &[u8], outcome: Outcome) -> bool {
+    io::write_all(STDOUT_FILENO, before);
     match outcome {
-        Outcome::Done => decimal(before, 0),
-        Outcome::Refused(r) => {
-            decimal(before, isa::number(r) as u64);
-            missing(r)
-        }
+        Outcome::Done => decimal(b"", 0),
+        Outcome::Refused(r) => refused(r),
     }
 }
 
@@ -423,14 +423,10 @@ fn number_of(before: &[u8], outcome: Outcome) -> bool {
 fn refused(r: Refusal) -> bool {
     io::write_all(STDOUT_FILENO, b"refused ");
     checks::write_refusal(STDOUT_FILENO, r);
-    missing(r)
-}
-
-fn missing(r: Refusal) -> bool {
-    if isa::missing(r) == 0 {
+    if isa::missing_in(r) == 0 {
         return true;
     }
-    decimal(b", missing ", isa::missing(r) as u64)
+    decimal(b", missing ", isa::missing_in(r) as u64)
 }
 
 fn word_name(flags: u32, word: u32) {

@@ -26,7 +26,7 @@ use replay::Bench;
 use replay::Outcome;
 use text::Printed;
 
-// A refusal takes the lowest byte of an answer, the flags that it misses the next, and the value stands above them.
+// A refusal takes the lowest byte of an answer, the flags that are missing the next, and the value stands above them.
 const AT_MISSING: u64 = 256;
 
 const AT_VALUE: u64 = 65536;
@@ -235,7 +235,7 @@ fn bench_of(flags: u32, streaming: bool, za_on: bool, vb: usize) -> Bench
 fn refused(r: Refusal) -> u64
     ensures { λ n. ⌜ n ≡ answer 0 (some r) ⌝ }
 {
-    isa::missing(r) as u64 * AT_MISSING + isa::number(r) as u64
+    isa::missing_in(r) as u64 * AT_MISSING + isa::number(r) as u64
 }
 
 // The same of an outcome, 0 for none.

@@ -43,7 +43,7 @@ on-lacking flags (f ∷ fs) h =
     rw (h f (List·Memᴰ·head refl), on-lacking flags fs (λ g m. h g (List·Memᴰ·tail m)))
 
 -- with no flag on, every feature is lacking
-zero-off : (f : Feature) → on 0 f ≡ false
+pub zero-off : (f : Feature) → on 0 f ≡ false
 zero-off SME = refl
 zero-off I16I64 = refl
 zero-off MOP4 = refl

@@ -5,6 +5,7 @@ pub mod Lines
 pub mod Lookup
 pub mod Answers
 pub mod Sums
+pub mod Missing
 pub mod Theorems
 pub mod Counts
 pub mod Examples

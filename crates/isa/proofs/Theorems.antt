@@ -16,8 +16,9 @@ use Rattle.isa.specs.declared.Encoded.the-variants.{Word}
 use Rattle.isa.proofs.Tests.{every-all}
 use Rattle.isa.proofs.Lines.{checked, at-line, in-table, described-range, described-word, word-described}
 use Rattle.isa.proofs.Lookup.{lookup-found, lookup-some, lookup-none}
-use Rattle.isa.proofs.Sums.{handed, decode-fair}
 use Rattle.isa.proofs.Lookup.{one-line as lookup-one-line}
+use Rattle.isa.proofs.Missing.{missing-is}
+use Rattle.isa.proofs.Sums.{handed, decode-fair}
 use Rattle.isa.proofs.Answers.{lacking-none, on-lacking, lacking-most, decode-flags, decode-unlisted, decode-listed, decode-passed, decode-refusal, describe-found, encode-in-range, encode-out-of-range, encoded}
 
 -- ---- what is found, in the claims' terms
@@ -149,6 +150,7 @@ decodes flags w =
       gives-8 = (λ p. is-8 flags w (at flags w p), λ c. ap decodedNumber (feature-when flags w (c .0) (c .1) (c .2)));
       describes = λ i p. decode-passed flags w i p .1;
       missing-none = (none-missing flags w, missing-none flags w);
+      missing-is = missing-is flags w;
       missing-most = missing-most flags w;
       hands-back = hands-back flags w;
     }

@@ -26,6 +26,10 @@ AllOn flags fs = (f : Feature) → List·Memᴰ f fs → on flags f ≡ true
 abbrev pub FeaturesOn : ℕ → ℕ → Type 0
 FeaturesOn flags w = (e : Entry) → List·Memᴰ e table → matches (e .row) w ≡ true → AllOn flags (e .needs)
 
+-- a word's line needs a feature
+abbrev pub Needs : ℕ → Feature → Type 0
+Needs w f = (e : Entry) × List·Memᴰ e table × (matches (e .row) w ≡ true) × List·Memᴰ f (e .needs)
+
 -- C-15: beside an answer's number stands a sum of flags; w is the word that the answer is about. 8 comes with exactly the
 -- flags that w needs and that are off, and any other number with none.
 pub record HandsBack (flags w number sum : ℕ) : Type 0 where
@@ -41,6 +45,7 @@ pub record Decodes (flags w : ℕ) : Type 0 where
   pub gives-8 : (decodeNumber flags w ≡ 8) ↔ (flags ≤ allFlags) × Listed w × (FeaturesOn flags w → ⊥)
   pub describes : (i : Instruction) → decodeOf flags w ≡ Accepted i → describe w ≡ some i
   pub missing-none : (missing flags w ≡ 0) ↔ FeaturesOn flags w
+  pub missing-is : (f : Feature) → (on (missing flags w) f ≡ true) ↔ Needs w f × (on flags f ≡ false)
   pub missing-most : missing flags w ≤ allFlags
   pub hands-back : HandsBack flags w (decodeNumber flags w) (decodeMissing flags w)
 

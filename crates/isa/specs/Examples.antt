@@ -1,5 +1,5 @@
--- Words and what they are, and what each line misses with which flags, as rows of tables; proofs/Examples.antt shows that each comes
--- out as it says. The paper's marked examples are in crates/bench/specs/Examples.antt. Here are words of an independent
+-- Words and what they are, and what each line misses with which flags, as rows of tables; proofs/Examples.antt shows that
+-- each comes out as it says. The paper's marked examples are in crates/bench/specs/Examples.antt. Here are words of an independent
 -- disassembler: three for each row of the table that has two fields or more, in which every two of its fields differ
 -- somewhere, both signs stand alone and, where the row allows it, mixed, and both values of S, N and M occur; each with the
 -- least flags that allow it; then words that are refused.

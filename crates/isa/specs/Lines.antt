@@ -18,7 +18,7 @@ entryFor PredicatedTwoWay = some (predicated Halves32)
 entryFor QuarterTwoWay = some (quarter Halves32)
 entryFor Unlisted = none
 
--- what test 7 leaves of it
+-- test 7, of a word's line
 abbrev pub checkedLine : Option Entry → Checked
 checkedLine none = Refused NotListed
 checkedLine (some e) = Passed

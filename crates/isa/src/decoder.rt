@@ -6,6 +6,7 @@ ghost use lib.Dec.{eqb, ltb};
 ghost use Prim.Native.Nat.{_/_, _%_, _<_, _≤_};
 ghost use Rattle.isa.specs.Row.{matches, fieldOf};
 ghost use Rattle.isa.specs.Table.{predicated32, predicated64, quarter32, quarter64, zero8, predicatedTwoWay, quarterTwoWay, table, allFlags, lacking as lackingOf, predicated, quarter, described, operationOfFields, source, elementBytes, tilesOf};
+ghost use Rattle.isa.specs.Refusals.{refusalNumber, refusalMissing};
 ghost use Rattle.isa.specs.Answers.{lookup, describedBy, neededBy, decided, decodedNumber, decodedMissing, decodeOf, decodeRefusal, decodeNumber, decodeMissing, checkedRefusal};
 ghost use Rattle.isa.specs.Lines.{entryFor, checkedLine};
 use crate::Checked;
@@ -59,6 +60,8 @@ pub fn decode(flags: u32, word: u32) -> Decoded
 // The refusal of that answer, if it has one. No description is made, which would go through memory.
 pub fn check(flags: u32, word: u32) -> Checked
     ensures { λ r. ⌜ checkedRefusal r ≡ decodeRefusal flags word ⌝ }
+    ensures { λ r. ⌜ refusalNumber (checkedRefusal r) ≡ decodeNumber flags word ⌝ }
+    ensures { λ r. ⌜ refusalMissing (checkedRefusal r) ≡ decodeMissing flags word ⌝ }
 {
     if !flags_legal(flags) {
         return Checked::Refused(Refusal::Flags);
@@ -126,7 +129,7 @@ fn lacking(flags: u32, line: Line) -> u32
     }
 }
 
-// Test 7, of the line that a word matches.
+// Test 7, of a word's line.
 fn check_line(line: Line) -> Checked
     ensures { λ r. ⌜ r ≡ checkedLine (entryFor line) ⌝ }
 {

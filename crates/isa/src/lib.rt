@@ -12,7 +12,7 @@ pub use decoder::source_of;
 pub use encoder::encode;
 pub use encoder::is_pair;
 pub use encoder::register_of;
-pub use numbers::missing;
+pub use numbers::missing_in;
 pub use numbers::number;
 pub use sizes::element_bytes;
 pub use sizes::products;

@@ -25,7 +25,7 @@ pub fn number(r: Refusal) -> u32
 }
 
 // The sum of the flags that the word needs and that are off; 0 beside any other refusal than 8.
-pub fn missing(r: Refusal) -> u32
+pub fn missing_in(r: Refusal) -> u32
     ensures { λ n. ⌜ n ≡ missingIn r ⌝ }
 {
     match r {

@@ -1,4 +1,5 @@
--- What document 02 (C-11, C-12, C-15) asks of a read: the claims of specs/Claims.antt hold for every flags and line. Assumes nothing.
+-- What document 02 (C-11, C-12, C-15) asks of a read: the claims of specs/Claims.antt hold for every flags and line. Assumes
+-- nothing.
 use mathlib.Core.Path.{_≡_, _∙_, sym, ap, refl, subst}
 use mathlib.Core.Bool.{Bool, true, false}
 use mathlib.Core.List.{List, [], _∷_}

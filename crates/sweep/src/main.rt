@@ -1,6 +1,6 @@
-// Decodes all 2^32 words, with every feature on and with document 01's: how many each line of the table accepts, how many
-// descriptions encode to another word than the one that they came from, how many words `check` answers otherwise, and how
-// many miss which features. The same with no feature on.
+// Decodes all 2^32 words, with every feature on, with document 01's and with none: how many each line of the table accepts,
+// how many descriptions encode to another word than the one that they came from, how many words `check` answers otherwise,
+// and how many miss which features.
 ghost use Prim.Native.Nat.{_<_};
 use checks::Sums;
 use checks::count;
@@ -90,7 +90,7 @@ fn with_word(t: Tally, flags: u32, word: u32) -> Tally {
     match isa::decode(flags, word) {
         Decoded::Accepted(i) => counted(t, line(i), encodes_to(i, word), passed(checked), 0),
         Decoded::Refused(r) => {
-            let sum = isa::missing(r);
+            let sum = isa::missing_in(r);
             counted(t, NO_LINE, true, refused_by(checked, r), sum)
         }
     }
@@ -108,7 +108,7 @@ fn refused_by(c: Checked, r: Refusal) -> bool {
     match c {
         Checked::Passed => false,
         Checked::Refused(s) => {
-            (isa::number(s) == isa::number(r)) & (isa::missing(s) == isa::missing(r))
+            (isa::number(s) == isa::number(r)) & (isa::missing_in(s) == isa::missing_in(r))
         }
     }
 }

@@ -109,7 +109,7 @@ fn word_of(line: &[u8]) -> Number {
 }
 
 // A line agrees if print does in a room of 48 bytes, in one of the text's length, and in one a byte shorter, if read gives
-// the word back, and if its features are those that it misses.
+// the word back, and if the word needs exactly the features that it misses where none is on.
 fn word_outcome(w: u32, listed: &[u8]) -> Outcome {
     let mut room = [FILL; TEXT_ROOM];
     let agrees = match text::print(isa::ALL_FLAGS, w, &mut room) {
@@ -123,8 +123,8 @@ fn word_outcome(w: u32, listed: &[u8]) -> Outcome {
     }
 }
 
-// Whether n bytes printed into room are what is listed, print keeps to rooms of n bytes and of one less, and what is
-// listed is read as the word.
+// Whether n bytes printed into room are what is listed, print keeps to rooms of n bytes and of one less, what is listed is
+// read as the word, and its features agree.
 fn text_agrees(w: u32, n: usize, room: &[u8], listed: &[u8]) -> bool {
     if !holds(room, n, listed) {
         return disagrees(w, b"print ", checks::first(room, n), listed);
@@ -192,7 +192,7 @@ fn reads_as(line: &[u8], w: u32) -> bool {
     }
 }
 
-// Whether a word misses the same features with none on as with all others on, and none with these alone.
+// Whether a word misses the same features where none is on and where all others are, and none where these alone are.
 fn features_agree(w: u32) -> bool {
     let sum = missing(0, w);
     if sum == 0 {
@@ -216,7 +216,7 @@ fn missing(flags: u32, w: u32) -> u32 {
     let mut room = [FILL; TEXT_ROOM];
     match text::print(flags, w, &mut room) {
         Printed::Length(_) => 0,
-        Printed::Refused(refusal) => isa::missing(refusal),
+        Printed::Refused(refusal) => isa::missing_in(refusal),
     }
 }
 

@@ -7,12 +7,12 @@ use Rattle.birdaghol.proofs.birdaghol_decode.Statement.{statement}
 use Rattle.birdaghol.proofs.birdaghol_decode.Tie as tie
 
 returns : tie.Need-returns
-returns c = sym (ap (answer 0) (sym (c .before .before .check .ensures) ∙ ap checkedRefusal (c .enum-told .given .1)))
+returns c = sym (ap (answer 0) (sym (c .before .before .check .ensures .0) ∙ ap checkedRefusal (c .enum-told .given .1)))
 
 returns-2 : tie.Need-returns-2
 returns-2 c =
     let r = c .before .before in
-    c .refused .ensures ∙ sym (ap (answer 0) (sym (r .before .before .check .ensures) ∙ ap checkedRefusal (r .r .given .1)))
+    c .refused .ensures ∙ sym (ap (answer 0) (sym (r .before .before .check .ensures .0) ∙ ap checkedRefusal (r .r .given .1)))
 
 pub birdaghol-decode-spec : {M : Type 1} → statement M
 birdaghol-decode-spec =

@@ -37,7 +37,7 @@ returns-2 c =
     let w = c .before .before .before .before in
     let e = w .before .before in
     let h = c .before .before .has-text .ensures in
-    let n = c .before .check .ensures in
+    let n = c .before .check .ensures .0 in
     answers _ _ (c .decide .ensures ∙ rw (h, n) (guess-word _ _ _ (legal (e .before .before)) (encoded e ∙ w .w .given .1)))
 
 returns-3 : tie.Need-returns-3
