@@ -89,11 +89,16 @@ fn with_word(t: Tally, flags: u32, word: u32) -> Tally {
     let checked = isa::check(flags, word);
     match isa::decode(flags, word) {
         Decoded::Accepted(i) => counted(t, line(i), encodes_to(i, word), passed(checked), 0),
-        Decoded::Refused(r) => {
-            let sum = isa::missing_in(r);
-            counted(t, NO_LINE, true, refused_by(checked, r), sum)
-        }
+        Decoded::Refused(r) => with_refused(t, refused_by(checked, r), isa::missing_in(r)),
     }
+}
+
+// Most words are unlisted, and change no count.
+fn with_refused(t: Tally, same_check: bool, sum: u32) -> Tally {
+    if same_check & (sum == 0) {
+        return t;
+    }
+    counted(t, NO_LINE, true, same_check, sum)
 }
 
 fn passed(c: Checked) -> bool {
