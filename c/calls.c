@@ -23,8 +23,13 @@ static void expect(const char *what, uint64_t answer, uint64_t right) {
     }
 }
 
+/* An answer, which the header's macros must take apart again. */
 static uint64_t packed(uint64_t value, uint64_t missing, uint64_t refusal) {
-    return value * 65536 + missing * 256 + refusal;
+    const uint64_t answer = value * 65536 + missing * 256 + refusal;
+    expect("BIRDAGHOL_VALUE", BIRDAGHOL_VALUE(answer), value);
+    expect("BIRDAGHOL_MISSING", BIRDAGHOL_MISSING(answer), missing);
+    expect("BIRDAGHOL_REFUSAL", BIRDAGHOL_REFUSAL(answer), refusal);
+    return answer;
 }
 
 static void words(void) {
@@ -240,12 +245,8 @@ static void other_refusals(void) {
 static void stopped_lists(void) {
     const uint32_t list[] = {ZERO, SUMOPA, USMOP4S, UMOPA_2WAY};
     const uint8_t sum[] = {0x04, 0xFC, 0xFF, 0xFF};
-    const uint64_t answer = run(1, list, 4);
-    expect("run, two features off", answer, packed(2, 2 + 4, 8));
+    expect("run, two features off", run(1, list, 4), packed(2, 2 + 4, 8));
     expect("run, its sum", (uint64_t)memcmp(za, sum, sizeof sum), 0);
-    expect("BIRDAGHOL_VALUE", BIRDAGHOL_VALUE(answer), 2);
-    expect("BIRDAGHOL_MISSING", BIRDAGHOL_MISSING(answer), 2 + 4);
-    expect("BIRDAGHOL_REFUSAL", BIRDAGHOL_REFUSAL(answer), 8);
     expect("run, I16I64 off", run(1 + 4, list, 4), packed(2, 2, 8));
     expect("run, MOP4 off", run(1 + 2, list, 4), packed(2, 4, 8));
     expect("run, SME2 off", run(1 + 2 + 4, list, 4), packed(3, 8, 8));

@@ -8,8 +8,7 @@ mod pseudocode;
 mod sample;
 
 use birdaghol::{Bench, Ended};
-use sample::line::SMALL;
-use sample::{DAMAGES, LINES, Random};
+use sample::{DAMAGES, LINES, Random, SMALL};
 use std::hint::black_box;
 use std::iter;
 use std::time::Instant;

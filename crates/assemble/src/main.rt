@@ -186,7 +186,7 @@ fn take_refusal(counts: Counts, line_number: u64, refusal: Refusal) -> Counts
 {
     tell_number(b"line ", line_number);
     tell(b": refused ");
-    checks::write_refusal(STDERR_FILENO, refusal);
+    refusals::write_refusal(STDERR_FILENO, refusal);
     tell(b"\n");
     Counts {
         words: counts.words,

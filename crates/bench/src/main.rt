@@ -1,5 +1,5 @@
 // Runs the bench examples of document 01, some of the 2-way outer products, and words that miss features, and writes what
-// comes of each: 0 or its refusal, with the sum beside 8, then what it left.
+// comes of each: 0 or its refusal, with the sum beside 8, then what it left. The other refusals are shown at the end.
 ghost use mathlib.Core.Path.{_≡_};
 ghost use Prim.Native.Nat.{_+_, _≤_};
 ghost use lib.ListN.{length};
@@ -63,6 +63,7 @@ fn main() {
     lengths();
     two_way_words();
     two_way_sums();
+    meanings();
 }
 
 fn texts() {
@@ -312,12 +313,27 @@ fn list_of_umopa() -> [u32; LIST_ROOM]
     [UMOPA; LIST_ROOM]
 }
 
+// What a person is told of the refusals that no example gets.
+fn meanings() {
+    meaning(Refusal::ZLength);
+    meaning(Refusal::PLength);
+    meaning(Refusal::ZaLength);
+    meaning(Refusal::OutOfRange);
+    meaning(Refusal::Room);
+    meaning(Refusal::NotText);
+}
+
+fn meaning(r: Refusal) {
+    refused(r);
+    io::write_all(STDOUT_FILENO, b"\n");
+}
+
 // A word's text, or its refusal.
 fn text_of(flags: u32, word: u32) {
     word_name(flags, word);
     let mut room = [0u8; 47];
     match text::print(flags, word, &mut room) {
-        Printed::Length(n) => io::write_all(STDOUT_FILENO, first(&room, n)),
+        Printed::Length(n) => io::write_all(STDOUT_FILENO, checks::first(&room, n)),
         Printed::Refused(r) => refused(r),
     }
     ;
@@ -422,7 +438,7 @@ fn answer(before: &[u8], outcome: Outcome) -> bool {
 // A refusal in words, and the sum beside 8.
 fn refused(r: Refusal) -> bool {
     io::write_all(STDOUT_FILENO, b"refused ");
-    checks::write_refusal(STDOUT_FILENO, r);
+    refusals::write_refusal(STDOUT_FILENO, r);
     if isa::missing_in(r) == 0 {
         return true;
     }
@@ -451,14 +467,6 @@ fn all_but_last(words: &[u32]) -> &[u32] {
         return &words[0..n];
     }
     words
-}
-
-// The first n bytes, or all if there are fewer.
-fn first(bytes: &[u8], n: usize) -> &[u8] {
-    if n < bytes.len() {
-        return &bytes[0..n];
-    }
-    bytes
 }
 
 // How many bytes are not the value.

@@ -1,21 +1,15 @@
-// What the programs share: reading numbers and fields of a text, a stream of bytes, counts of compared lines and bytes, and
-// refusals in words.
+// What the programs share: reading numbers and fields of a text, a stream of bytes, and counts of compared lines and bytes.
 mod counts;
-mod refusals;
 mod stream;
 mod text;
 
 pub use counts::count;
 pub use counts::counted;
 pub use counts::differing;
-pub use counts::no_sums;
 pub use counts::one_if;
 pub use counts::part;
 pub use counts::plus;
 pub use counts::report;
-pub use counts::report_sums;
-pub use counts::with_sum;
-pub use refusals::write_refusal;
 pub use stream::generate;
 pub use stream::next;
 pub use text::INPUT_ROOM;
@@ -31,16 +25,6 @@ pub struct Tally {
     pub lines: u64,
     pub agreed: u64,
     pub malformed: u64,
-}
-
-// How many words miss which features, by the sum of their flags; no word of the table misses another sum than these five.
-pub struct Sums {
-    pub sme: u64,
-    pub i16i64: u64,
-    pub mop4: u64,
-    pub i16i64_mop4: u64,
-    pub sme2: u64,
-    pub others: u64,
 }
 
 // What comes of a line.

@@ -42,21 +42,6 @@ on-lacking flags [] h = refl
 on-lacking flags (f ∷ fs) h =
     rw (h f (List·Memᴰ·head refl), on-lacking flags fs (λ g m. h g (List·Memᴰ·tail m)))
 
--- with no flag on, every feature is lacking
-pub zero-off : (f : Feature) → on 0 f ≡ false
-zero-off SME = refl
-zero-off I16I64 = refl
-zero-off MOP4 = refl
-zero-off SME2 = refl
-
-pub lacking-most : (flags : ℕ) (fs : List Feature) → lacking flags fs ≤ lacking 0 fs
-lacking-most flags [] = omega arith
-lacking-most flags (f ∷ fs) = rw (zero-off f) (go (on flags f) (lacking-most flags fs))
-  where
-    go : (b : Bool) → lacking flags fs ≤ lacking 0 fs → cond b 0 (flag f) + lacking flags fs ≤ flag f + lacking 0 fs
-    go true h = omega arith
-    go false h = omega arith
-
 -- ---- decode
 pub decode-flags : (flags w : ℕ) → allFlags < flags → decodeOf flags w ≡ NotDecoded Flags
 unfolding decodeOf

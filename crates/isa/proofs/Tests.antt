@@ -1,10 +1,13 @@
--- Lists of tests: all hold together exactly when each holds, however they are joined. Assumes nothing.
-use mathlib.Core.Path.{_≡_, refl}
-use mathlib.Core.Bool.{Bool, true, false, _&&_}
+-- Lists of tests: all hold together exactly when each holds, however they are joined; and a test of every number below a
+-- bound. Assumes nothing.
+use mathlib.Core.Path.{_≡_, refl, sym}
+use mathlib.Core.Bool.{Bool, Bool·beq, true, false, _&&_}
 use mathlib.Core.List.{List, [], _∷_}
-use Prim.Native.Nat.{ℕ}
+use Prim.Native.Nat.{ℕ, zero, suc, _<_}
 use native.Mathlib.Omega.{arith}
-use Rattle.isa.specs.Row.{every}
+use lib.Dec.{eqb}
+use borrow.Author.Tests.{eqb-true, eqb-false}
+use Rattle.isa.specs.Row.{every, everyBelow}
 
 abbrev pub All : List Bool → Type 0
 All [] = Unit {0}
@@ -37,3 +40,23 @@ joined-to false (t ∷ ts) = joined-to false ts
 pub joined-every : (ts : List Bool) → joined ts ≡ every ts
 joined-every [] = refl
 joined-every (t ∷ ts) = joined-to t ts
+
+pub beq-eq : (a b : Bool) → Bool·beq a b ≡ true → a ≡ b
+beq-eq true true h = refl
+beq-eq true false h = sym h
+beq-eq false true h = h
+beq-eq false false h = refl
+
+-- ---- a test of every number below n
+pub below : (f : ℕ → Bool) (n k : ℕ) → everyBelow f n ≡ true → k < n → f k ≡ true
+below f zero k p h = absurd (omega arith)
+below f (suc n) k p h = go (f n) refl p (eqb k n) refl (below f n k)
+  where
+    go : (b : Bool) → f n ≡ b → b && everyBelow f n ≡ true → (e : Bool) → eqb k n ≡ e → (everyBelow f n ≡ true → k < n → f k ≡ true) → f k ≡ true
+    go false q r e d rest = let z : true ≡ false = sym r in cc
+    go true q r true d rest = rw (eqb-true k n d) q
+    go true q r false d rest = rest r (omega (arith, eqb-false k n d))
+
+pub all-below : (f : ℕ → Bool) (n : ℕ) → ((k : ℕ) → k < n → f k ≡ true) → everyBelow f n ≡ true
+all-below f zero h = refl
+all-below f (suc n) h = rw (h n (omega arith)) (all-below f n (λ k l. h k (omega arith)))

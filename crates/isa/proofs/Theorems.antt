@@ -4,8 +4,8 @@ use mathlib.Core.Bool.{Bool, true, false, cond}
 use mathlib.Core.Option.{Option, none, some}
 use Prim.Native.Nat.{ℕ, _≤_, _<_, _^_}
 use native.Mathlib.Omega.{arith}
-use lib.Dec.{eqb, ltb, leb}
-use borrow.Author.Tests.{eq-eqb, ne-eqb, eqb-true, eqb-false, ltb-true, ltb-false, leb-true}
+use lib.Dec.{eqb, ltb}
+use borrow.Author.Tests.{eq-eqb, ne-eqb, eqb-true, eqb-false, ltb-true, ltb-false}
 use Rattle.isa.specs.Table.{Entry, table, allFlags, lacking, described, entryOf, inRange, wordFor}
 use Rattle.isa.specs.Answers.{lookup, describedBy, neededBy, describe, missing, decodeTests, decodeOf, decodedNumber, decodeNumber, decodeMissing, encodedNumber, encodedWord, encodeNumber}
 use Rattle.isa.specs.Claims.{Listed, FeaturesOn, HandsBack, Decodes, OnlyWord, Encodes, Describes, OneLine}
@@ -13,13 +13,12 @@ use Rattle.isa.specs.declared.Instruction.{Instruction}
 use Rattle.isa.specs.declared.Refusal.the-variants.{Unlisted, FeatureOff}
 use Rattle.isa.specs.declared.Decoded.the-variants.{Accepted, Refused as NotDecoded}
 use Rattle.isa.specs.declared.Encoded.the-variants.{Word}
-use Rattle.isa.proofs.Tests.{every-all}
-use Rattle.isa.proofs.Lines.{checked, at-line, in-table, described-range, described-word, word-described}
+use Rattle.isa.proofs.Lines.{in-table, described-range, described-word, word-described}
 use Rattle.isa.proofs.Lookup.{lookup-found, lookup-some, lookup-none}
 use Rattle.isa.proofs.Lookup.{one-line as lookup-one-line}
-use Rattle.isa.proofs.Missing.{missing-is}
+use Rattle.isa.proofs.Missing.{missing-is, missing-most}
 use Rattle.isa.proofs.Sums.{handed, decode-fair}
-use Rattle.isa.proofs.Answers.{lacking-none, on-lacking, lacking-most, decode-flags, decode-unlisted, decode-listed, decode-passed, decode-refusal, describe-found, encode-in-range, encode-out-of-range, encoded}
+use Rattle.isa.proofs.Answers.{lacking-none, on-lacking, decode-flags, decode-unlisted, decode-listed, decode-passed, decode-refusal, describe-found, encode-in-range, encode-out-of-range, encoded}
 
 -- ---- what is found, in the claims' terms
 listed-found : (w : ℕ) → Listed w → (e : Entry) × (lookup table w ≡ some e)
@@ -70,10 +69,6 @@ data Case (flags w : ℕ) : ℕ → Type 0 where
   gives-1 : allFlags < flags → Case flags w 1
   gives-7 : flags ≤ allFlags → (Listed w → ⊥) → Case flags w 7
   gives-8 : flags ≤ allFlags → Listed w → (FeaturesOn flags w → ⊥) → Case flags w 8
-
--- no line needs more than there is
-abbrev few? : Entry → Bool
-few? e = leb (lacking 0 (e .needs)) allFlags
 
 module _ (flags w : ℕ) where
   abbrev given : ℕ
@@ -126,16 +121,6 @@ module _ (flags w : ℕ) where
       go : (o : Option Entry) → lookup table w ≡ o → lacking flags (neededBy o) ≡ 0
       go none p = refl
       go (some e) p = features-lacking flags w e p h
-
-  missing-most : missing flags w ≤ allFlags
-  unfolding missing
-  missing-most = go (lookup table w) refl
-    where
-      go : (o : Option Entry) → lookup table w ≡ o → lacking flags (neededBy o) ≤ allFlags
-      go none p = omega arith
-      go (some e) p =
-          let few : lacking 0 (e .needs) ≤ allFlags = leb-true _ _ (at-line few? table (every-all (checked few? table) refl) (lookup-some table e w p .0)) in
-          omega (arith, lacking-most flags (e .needs))
 
   hands-back : HandsBack flags w given (decodeMissing flags w)
   hands-back = rw (decode-refusal flags w) (handed flags w (decodeTests flags w) (decode-fair flags w))

@@ -1,13 +1,18 @@
 -- Rows of an encoding table: segments from bit 31 down, each a fixed pattern or a named field.
 use mathlib.Core.Bool.{Bool, true, cond, _&&_}
 use mathlib.Core.List.{List, [], _∷_}
-use Prim.Native.Nat.{ℕ, _+_, _*_, _/_, _%_, _^_}
+use Prim.Native.Nat.{ℕ, zero, suc, _+_, _*_, _/_, _%_, _^_}
 use lib.Dec.{eqb}
 
 -- every test of a list holds
 abbrev pub every : List Bool → Bool
 every [] = true
 every (t ∷ ts) = t && every ts
+
+-- a test holds of every number below n
+abbrev pub everyBelow : (ℕ → Bool) → ℕ → Bool
+everyBelow f zero = true
+everyBelow f (suc n) = f n && everyBelow f n
 
 -- the names of the fields, as Arm's pages have them
 pub data Name : Type 0 where

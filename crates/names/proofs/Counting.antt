@@ -9,11 +9,11 @@ use lib.Dec.{leb}
 use lib.ListN.{length}
 use borrow.Author.Tests.{leb-true}
 use Rattle.isa.specs.Row.{every}
+use Rattle.isa.proofs.Tests.{all-below}
 use Rattle.isa.proofs.Rows.{both}
 use Rattle.storage.specs.Tile.{masked}
 use Rattle.names.specs.declared.TileName.{TileName}
 use Rattle.names.specs.Names.{names, among, isName, holds, held, inside, Covers}
-use Rattle.names.proofs.Tests.{all-below}
 use Rattle.names.proofs.Members.{each, all-of, member-held}
 
 -- how many of these rows pass a test

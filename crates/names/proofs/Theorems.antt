@@ -10,15 +10,15 @@ use native.Mathlib.Omega.{arith}
 use lib.Dec.{eqb, leb}
 use lib.ListN.{length, getD}
 use borrow.Author.Tests.{eqb-true, leb-true}
-use Rattle.isa.specs.Row.{every}
-use Rattle.isa.proofs.Tests.{every-all}
+use Rattle.isa.specs.Row.{every, everyBelow}
+use Rattle.isa.proofs.Tests.{every-all, below, beq-eq}
 use Rattle.isa.proofs.Rows.{both}
 use Rattle.storage.specs.Tile.{masked}
 use Rattle.names.specs.declared.TileName.{TileName}
-use Rattle.names.specs.Names.{names, sameName, among, isName, holds, held, lowest, rising, Shortest, everyBelow, namesOf}
+use Rattle.names.specs.Names.{names, sameName, among, isName, holds, held, lowest, rising, Shortest, namesOf}
 use Rattle.names.specs.Lists.{listNumber, namesIn, Table}
 use Rattle.names.specs.Claims.{OneList}
-use Rattle.names.proofs.Tests.{below, everyEntry, entry}
+use Rattle.names.proofs.Tests.{everyEntry, entry}
 use Rattle.names.proofs.Members.{same-name, each}
 use Rattle.names.proofs.Counting.{apart, no-fewer}
 use Rattle.names.proofs.Orders.{same-list}
@@ -55,12 +55,6 @@ masked-repeats : (mask r : ℕ) → masked mask (r % 8) ≡ masked mask r
 masked-repeats mask r = ap (λ (t : ℕ). eqb (mask / 2 ^ t % 2) 1) (omega arith)
 
 -- ---- what passes is the shortest
-beq-eq : (a b : Bool) → Bool·beq a b ≡ true → a ≡ b
-beq-eq true true h = refl
-beq-eq true false h = sym h
-beq-eq false true h = h
-beq-eq false false h = refl
-
 lows-length : (ks : List TileName) → length (lows ks) ≡ length ks
 lows-length [] = refl
 lows-length (k ∷ ks) = rw (lows-length ks)

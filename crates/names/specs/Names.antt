@@ -3,10 +3,10 @@
 use mathlib.Core.Path.{_≡_}
 use mathlib.Core.Bool.{Bool, true, false, not, cond, _&&_, _||_}
 use mathlib.Core.List.{List, [], _∷_, map}
-use Prim.Native.Nat.{ℕ, zero, suc, _/_, _%_, _≤_}
+use Prim.Native.Nat.{ℕ, _/_, _%_, _≤_}
 use lib.Dec.{eqb, ltb}
 use lib.ListN.{length}
-use Rattle.isa.specs.Row.{every}
+use Rattle.isa.specs.Row.{every, everyBelow}
 use Rattle.storage.specs.Tile.{inTile, masked}
 use Rattle.names.specs.declared.TileName.{TileName}
 
@@ -70,11 +70,6 @@ pub record Shortest (mask : ℕ) (ks : List TileName) : Type 0 where
   pub order : rising ks ≡ true
 
 -- ---- that list, by a rule: one name holds another or they share no row, so that it is made of the largest inside the mask
-
--- a test of every number below n
-abbrev pub everyBelow : (ℕ → Bool) → ℕ → Bool
-everyBelow f zero = true
-everyBelow f (suc n) = f n && everyBelow f n
 
 -- ZERO clears every row that a name holds; eight rows tell, as a name that holds row r holds row r + 8
 abbrev pub inside : ℕ → TileName → Bool

@@ -15,10 +15,9 @@ use Rattle.isa.specs.declared.Source.{Source}
 use Rattle.isa.specs.declared.Source.the-variants.{One, Pair}
 use Rattle.isa.specs.declared.Instruction.{Instruction}
 use Rattle.isa.specs.declared.Instruction.the-variants.{Predicated, Quarter, Zero}
-use Rattle.isa.proofs.Tests.{every-all}
+use Rattle.isa.proofs.Tests.{every-all, below}
 use Rattle.isa.proofs.Lines.{predicated-range, quarter-range}
 use Rattle.names.specs.Names.{namesOf}
-use Rattle.names.proofs.Tests.{below}
 use Rattle.text.specs.Ascii.{ascii}
 use Rattle.text.specs.Spelling.{Text, decimal, mnemonic, tileName, predicateName, vectorName, sourceName, further, separated, spelling}
 use Rattle.reader.specs.declared.Scan.{Scan}

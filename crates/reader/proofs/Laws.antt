@@ -12,7 +12,7 @@ use borrow.Author.Tests.{eq-eqb, ne-eqb, eqb-true, leb-true}
 use Rattle.isa.specs.declared.Operation.{Operation}
 use Rattle.isa.specs.declared.Instruction.{Instruction}
 use Rattle.isa.specs.declared.Instruction.the-variants.{Zero}
-use Rattle.names.proofs.Tests.{below}
+use Rattle.isa.proofs.Tests.{below}
 use Rattle.text.specs.Spelling.{Text}
 use Rattle.reader.specs.declared.Scan.{Scan}
 use Rattle.reader.specs.Answers.{sameText}

@@ -116,11 +116,11 @@ module _ (flags : ℕ) (t : Text) where
   of-8 r (gives-8 h w s f) e = (h, (w, s, f))
 
   -- the line of w gets its sum
-  handed : (w : ℕ) → Spells w t → (r : Reading) → Outcome flags t r → HandsBack flags w (readingNumber r) (readingMissing r)
-  handed w s r (is-word v h k f) = without-sum (λ e. omega arith)
-  handed w s r (gives-1 h) = without-sum (λ e. omega arith)
-  handed w s r (gives-13 h f) = without-sum (λ e. omega arith)
-  handed w s r (gives-8 h v k f) =
+  hands-back : (w : ℕ) → Spells w t → (r : Reading) → Outcome flags t r → HandsBack flags w (readingNumber r) (readingMissing r)
+  hands-back w s r (is-word v h k f) = without-sum (λ e. omega arith)
+  hands-back w s r (gives-1 h) = without-sum (λ e. omega arith)
+  hands-back w s r (gives-13 h f) = without-sum (λ e. omega arith)
+  hands-back w s r (gives-8 h v k f) =
       subst (λ (v : ℕ). HandsBack flags w 8 (missing flags v)) (no-two-words w v t s k)
       (with-sum (λ z. f (subst (FeaturesOn flags) (no-two-words w v t s k) (decodes flags w .missing-none .0 z))))
 
@@ -148,7 +148,7 @@ reads flags t =
       gives-1 = (of-1 flags t (readOf flags t) o, λ h. ap readingNumber (read-flags flags t h));
       gives-13 = (of-13 flags t (readOf flags t) o, λ c. ap readingNumber (none-when flags t (c .0) (c .1)));
       gives-8 = (of-8 flags t (readOf flags t) o, λ c. let (w, s, f) = c .1 in ap readingNumber (feature-when flags t w (c .0) s f));
-      hands-back = λ w s. handed flags t w s (readOf flags t) o;
+      hands-back = λ w s. hands-back flags t w s (readOf flags t) o;
       no-sum = no-sum flags t (readOf flags t) o;
       word = λ e. let (h, s, f) = of-0 flags t (readOf flags t) o e in (s, f);
       refused = no-word flags t (readOf flags t) o;

@@ -75,9 +75,9 @@ module _ (m : Machine) (w : ℕ) where
       (later (m .bench) (length (m .z)) (length (m .p)) (length (m .za)) (wordRefusal m w) late c)
 
   -- tests 1 to 5, then 7 to 10, hand back the word's sum
-  handed-back : HandsBack (m .bench .flags) w (executeNumber m w) (executeMissing m w)
+  hands-back : HandsBack (m .bench .flags) w (executeNumber m w) (executeMissing m w)
   unfolding refusalOf
-  handed-back =
+  hands-back =
       let flags = m .bench .flags in
       let words = wordTests (m .bench) w in
       rw (outcome-back (refusalOf m w))
@@ -93,7 +93,7 @@ module _ (m : Machine) (w : ℕ) where
             (λ h. let l = word-number-late (m .bench) w h in omega arith));
         gives-7 = execute-later (λ l. omega arith) (λ h. word-7 (execute-word h));
         gives-8 = execute-later (λ l. omega arith) (λ h. word-8 (execute-word h));
-        hands-back = handed-back;
+        hands-back = hands-back;
         gives-9 = regroup (execute-later (λ l. omega arith) (λ h. word-9 (execute-word h)));
         gives-10 = regroup′ (execute-later (λ l. omega arith) (λ h. word-10 (execute-word h)));
         accepts = regroup (execute-later (λ l. absurd (omega arith)) (λ h. word-0 (execute-word h)));

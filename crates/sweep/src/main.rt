@@ -2,7 +2,6 @@
 // how many descriptions encode to another word than the one that they came from, how many words `check` answers otherwise,
 // and how many miss which features.
 ghost use Prim.Native.Nat.{_<_};
-use checks::Sums;
 use checks::count;
 use checks::one_if;
 use checks::plus;
@@ -12,6 +11,7 @@ use isa::Encoded;
 use isa::Instruction;
 use isa::Operation;
 use isa::Refusal;
+use refusals::Sums;
 
 const ALL_FEATURES: u32 = 15;
 
@@ -60,7 +60,7 @@ fn report(flags: u32) {
     count(b"total: ", plus(base, two_way));
     count(b"encoded to another word: ", t.changed);
     count(b"checked otherwise: ", t.otherwise);
-    checks::report_sums(t.sums);
+    refusals::report_sums(t.sums);
 }
 
 fn sweep(flags: u32) -> Tally {
@@ -74,7 +74,7 @@ fn sweep(flags: u32) -> Tally {
         zero: 0,
         changed: 0,
         otherwise: 0,
-        sums: checks::no_sums(),
+        sums: refusals::no_sums(),
     };
     let mut w: u64 = 0;
     while w < 0x1_0000_0000 {
@@ -101,6 +101,7 @@ fn with_refused(t: Tally, same_check: bool, sum: u32) -> Tally {
     counted(t, NO_LINE, true, same_check, sum)
 }
 
+// Whether nothing is refused.
 fn passed(c: Checked) -> bool {
     match c {
         Checked::Passed => true,
@@ -129,7 +130,7 @@ fn counted(t: Tally, line: u32, same_word: bool, same_check: bool, sum: u32) -> 
         quarter_two_way: plus(t.quarter_two_way, one_if(line == 6)),
         changed: plus(t.changed, one_if(!same_word)),
         otherwise: plus(t.otherwise, one_if(!same_check)),
-        sums: checks::with_sum(t.sums, sum),
+        sums: refusals::with_sum(t.sums, sum),
     }
 }
 

@@ -9,9 +9,9 @@ use native.Mathlib.Omega.{arith}
 use lib.Dec.{eqb, ltb}
 use borrow.Author.Tests.{ltb-true, eq-eqb, ne-eqb}
 use lib.ListN.{length, length-append}
+use Rattle.isa.proofs.Tests.{below}
 use Rattle.names.specs.declared.TileName.{TileName}
 use Rattle.names.specs.Lists.{nameOf, digitAt, namesFrom}
-use Rattle.names.proofs.Tests.{below}
 use Rattle.text.specs.Ascii.{ascii}
 use Rattle.text.specs.Spelling.{Text, decimal, suffix, nameText, separated, further, braced}
 use Rattle.text.specs.Put.{listed, behind, shown}

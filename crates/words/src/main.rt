@@ -3,12 +3,12 @@
 // Then tells how many of its words miss which features where none is on.
 use checks::Number;
 use checks::Outcome;
-use checks::Sums;
 use checks::Tally;
 use isa::Refusal;
 use libc::STDIN_FILENO;
 use libc::STDOUT_FILENO;
 use reader::Reading;
+use refusals::Sums;
 use text::Printed;
 
 // Document 01's numbers of the refusals that a word of the list can get.
@@ -43,7 +43,7 @@ fn main() {
 
 fn report(c: Compared) {
     checks::report(b"lines: ", c.tally);
-    checks::report_sums(c.sums);
+    refusals::report_sums(c.sums);
 }
 
 // A last line with no line feed is malformed: the list may have been cut there.
@@ -53,7 +53,7 @@ fn compare(list: &[u8]) -> Compared {
         agreed: 0,
         malformed: 0,
     };
-    let mut sums = checks::no_sums();
+    let mut sums = refusals::no_sums();
     let mut at = 0;
     while at < list.len() {
         let end = checks::field_end(list, at, b'\n');
@@ -63,14 +63,14 @@ fn compare(list: &[u8]) -> Compared {
         }
         let line = &list[at..end];
         tally = checks::counted(tally, line_outcome(line));
-        sums = checks::with_sum(sums, missing_in(line));
+        sums = refusals::with_sum(sums, missed_by(line));
         at = end + 1;
     }
     Compared { tally, sums }
 }
 
 // What the word of a line misses where no feature is on, if the line has one.
-fn missing_in(line: &[u8]) -> u32 {
+fn missed_by(line: &[u8]) -> u32 {
     match word_of(line) {
         Number::Value(w) => missing(0, w),
         Number::Malformed => 0,
@@ -255,7 +255,7 @@ fn refusal_agrees(w: u32, refusal: Refusal, room: &[u8], listed: &[u8]) -> bool 
     }
     io::print_hex(STDOUT_FILENO, w as u64, 8);
     io::write_all(STDOUT_FILENO, b": refused ");
-    checks::write_refusal(STDOUT_FILENO, refusal);
+    refusals::write_refusal(STDOUT_FILENO, refusal);
     write_listed(listed);
     false
 }

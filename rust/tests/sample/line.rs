@@ -18,7 +18,7 @@ pub struct Damage {
 pub const SMALL: usize = 17;
 
 /// The sorts of damage.
-pub const DAMAGES: [Damage; SMALL + 5] = [
+pub const DAMAGES: [Damage; 22] = [
     Damage { name: "a byte changed", harm: change, leaves_texts: true },
     Damage { name: "a byte left out", harm: leave_out, leaves_texts: true },
     Damage { name: "a byte doubled", harm: double, leaves_texts: true },

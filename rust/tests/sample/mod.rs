@@ -3,7 +3,7 @@
 mod case;
 mod guarded;
 mod instruction;
-pub mod line;
+mod line;
 mod random;
 mod tally;
 mod tiles;
@@ -11,7 +11,7 @@ mod tiles;
 pub use case::Case;
 pub use guarded::Guarded;
 pub use instruction::instruction;
-pub use line::{DAMAGES, Damage, text};
+pub use line::{DAMAGES, Damage, SMALL, text};
 pub use random::Random;
 pub use tally::Tally;
 

@@ -1,6 +1,6 @@
--- `checks::counts::with_sum` meets its contract: each count by itself. Assumes nothing.
-use Rattle.checks.proofs.counts.with_sum.Statement.{statement}
-use Rattle.checks.proofs.counts.with_sum.Tie as tie
+-- `refusals::counts::with_sum` meets its contract: each count by itself. Assumes nothing.
+use Rattle.refusals.proofs.counts.with_sum.Statement.{statement}
+use Rattle.refusals.proofs.counts.with_sum.Tie as tie
 
 returns : tie.Need-returns
 returns c =

@@ -1,4 +1,4 @@
-// A refusal as a person reads it.
+// A refusal as a person reads it, for programs to write.
 ghost use Prim.Native.Nat.{_<_};
 use isa::Refusal;
 
@@ -36,7 +36,7 @@ fn write_needs(fd: i32, sum: u32) -> bool {
     write_feature(fd, sum, 8, b"SME2")
 }
 
-// A feature's name, if the sum has its flag, with a comma or an "and" behind those of the lower flags.
+// A feature's name, if the sum has its flag, with an "and" behind those of the lower flags.
 fn write_feature(fd: i32, sum: u32, flag: u32, name: &[u8]) -> bool
     requires { ⌜ 0 < flag ⌝ }
 {
@@ -44,11 +44,7 @@ fn write_feature(fd: i32, sum: u32, flag: u32, name: &[u8]) -> bool
         return true;
     }
     if sum % flag != 0 {
-        if sum / flag == 1 {
-            io::write_all(fd, b" and ");
-        } else {
-            io::write_all(fd, b", ");
-        }
+        io::write_all(fd, b" and ");
     }
     io::write_all(fd, name)
 }
