@@ -73,11 +73,13 @@ pub struct Ended {
 }
 
 /// Tells whether a word is listed and its features are on.
+#[inline]
 pub fn decode(flags: u32, word: u32) -> Result<(), Refusal> {
     accepted(abi::birdaghol_decode(flags, word))
 }
 
 /// Writes the text of a word, 47 bytes at most, to the start of the room and gives its length; the bytes after it stay.
+#[inline]
 pub fn print(flags: u32, word: u32, room: &mut [u8]) -> Result<usize, Refusal> {
     // SAFETY: the address and the length are those of one slice, lent for this call alone.
     let answer = unsafe { abi::birdaghol_print(flags, word, room.as_mut_ptr(), room.len()) };
@@ -223,19 +225,23 @@ impl Source {
     }
 }
 
-/// Takes value * 65536 + missing * 256 + refusal apart.
+/// Takes value * 65536 + missing * 256 + refusal apart, where a caller of [`decode`] or [`print`] is compiled: a call more
+/// takes as long as all of `birdaghol_decode`.
+#[inline]
 fn unpack(answer: u64) -> (u64, Option<Refusal>) {
     let (missing, number) = (answer / 256 % 256, answer % 256);
     (answer / 65536, Refusal::of(number as u32, missing as u32))
 }
 
 /// The value of an answer that has one beside no refusal.
+#[inline]
 fn value(answer: u64) -> Result<u64, Refusal> {
     let (value, refusal) = unpack(answer);
     refusal.map_or(Ok(value), Err)
 }
 
 /// An answer that has no value.
+#[inline]
 fn accepted(answer: u64) -> Result<(), Refusal> {
     value(answer).map(|_| ())
 }

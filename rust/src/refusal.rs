@@ -57,23 +57,25 @@ impl Refusal {
     }
 
     /// The refusal of a number and a sum of missing flags that the library answered, none for 0.
+    #[inline]
     pub(crate) fn of(number: u32, missing: u32) -> Option<Refusal> {
-        let refusal = match (number, missing) {
-            (0, 0) => return None,
-            (1, 0) => Refusal::Flags,
-            (2, 0) => Refusal::VectorLength,
-            (3, 0) => Refusal::ZLength,
-            (4, 0) => Refusal::PLength,
-            (5, 0) => Refusal::ZaLength,
-            (6, 0) => Refusal::ListLength,
-            (7, 0) => Refusal::Unlisted,
-            (8, 1..=15) => Refusal::FeatureOff { missing },
-            (9, 0) => Refusal::StreamingOff,
-            (10, 0) => Refusal::ZaOff,
-            (11, 0) => Refusal::OutOfRange,
-            (12, 0) => Refusal::Room,
-            (13, 0) => Refusal::NotText,
-            _ => unreachable!("refusal {number} does not come with missing flags {missing}"),
+        assert_eq!(number == 8, missing != 0, "refusal {number} does not come with missing flags {missing}");
+        let refusal = match number {
+            0 => return None,
+            1 => Refusal::Flags,
+            2 => Refusal::VectorLength,
+            3 => Refusal::ZLength,
+            4 => Refusal::PLength,
+            5 => Refusal::ZaLength,
+            6 => Refusal::ListLength,
+            7 => Refusal::Unlisted,
+            8 => Refusal::FeatureOff { missing },
+            9 => Refusal::StreamingOff,
+            10 => Refusal::ZaOff,
+            11 => Refusal::OutOfRange,
+            12 => Refusal::Room,
+            13 => Refusal::NotText,
+            _ => unreachable!("there is no refusal {number}"),
         };
         Some(refusal)
     }
