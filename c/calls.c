@@ -160,7 +160,8 @@ static void bench(void) {
     expect("run, its 2-way sum", (uint64_t)memcmp(za, two_way_sum, sizeof two_way_sum), 0);
 }
 
-/* A word with features off: every call hands back the sum of them, whatever the modes and the room are, and writes nothing.
+/* A word with features off: calls that take it or its line hand back the sum of them, whatever the modes and the room are,
+   and write nothing.
    With these on as well, the word is decoded. */
 static void lacking(uint32_t flags, uint32_t word, const char *line, uint32_t missing) {
     struct {

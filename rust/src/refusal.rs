@@ -59,7 +59,7 @@ impl Refusal {
     /// The refusal of a number and a sum of missing flags that the library answered, none for 0.
     #[inline]
     pub(crate) fn of(number: u32, missing: u32) -> Option<Refusal> {
-        assert_eq!(number == 8, missing != 0, "refusal {number} does not come with missing flags {missing}");
+        assert!((number == 8) == (missing != 0), "refusal {number} does not come with missing flags {missing}");
         let refusal = match number {
             0 => return None,
             1 => Refusal::Flags,

@@ -205,28 +205,29 @@ fn modes() {
     );
 }
 
-// What a word misses: printed, executed and in a run; 8 comes before the modes are tested.
+// What a word misses: printed, executed and in a run.
 fn features() {
     text_of(14, UMOPA);
     text_of(2, 0x8100_8010);
     let z = plus_one();
     let p = [0xFFu8; 32];
-    example(b"umopa, flags 14", with_flags(14), &z, &p, 0xFF, UMOPA);
-    features_of_usmop4s(&z, &p);
-    example(
-        b"smopa, 2-way, both off",
-        modes_of(false, false),
-        &z,
-        &p,
-        0xFF,
-        SMOPA_TWO_WAY,
-    );
+    features_executed(&z, &p);
     list_example(b"umopa, then smopa, 2-way", &z, &p, &[UMOPA, SMOPA_TWO_WAY]);
 }
 
-fn features_of_usmop4s(z: &[u8], p: &[u8]) {
+// 8 comes before the modes are tested.
+fn features_executed(z: &[u8], p: &[u8]) {
+    example(b"umopa, flags 14", with_flags(14), z, p, 0xFF, UMOPA);
     example(b"usmop4s, flags 0", with_flags(0), z, p, 0xFF, USMOP4S_WIDE);
     example(b"usmop4s, flags 4", with_flags(4), z, p, 0xFF, USMOP4S_WIDE);
+    example(
+        b"smopa, 2-way, both off",
+        modes_of(false, false),
+        z,
+        p,
+        0xFF,
+        SMOPA_TWO_WAY,
+    );
 }
 
 // As C-16 of document 02 amends the example.

@@ -34,12 +34,15 @@ pub number-fits : (o : Option Refusal) → refusalNumber o < 256
 number-fits none = omega arith
 number-fits (some r) = omega (arith, number-between r .1)
 
-pub sum-fits : {flags w number sum : ℕ} → HandsBack flags w number sum → sum < 256
-sum-fits {flags} {w} {number} {sum} h = go (eqb number 8) refl
+pub sum-below : {number sum : ℕ} → (number ≡ 8 → sum < 256) → ((number ≡ 8 → ⊥) → sum ≡ 0) → sum < 256
+sum-below {number} {sum} fits others = go (eqb number 8) refl
   where
     go : (b : Bool) → eqb number 8 ≡ b → sum < 256
-    go true e = let s = h .beside-8 (eqb-true number 8 e) in omega (arith, decodes flags w .missing-most)
-    go false e = let s = h .beside-others (eqb-false number 8 e) in omega arith
+    go true e = fits (eqb-true number 8 e)
+    go false e = let z = others (eqb-false number 8 e) in omega arith
+
+pub sum-fits : {flags w number sum : ℕ} → HandsBack flags w number sum → sum < 256
+sum-fits {flags} {w} h = sum-below (λ e. let s = h .beside-8 e in omega (arith, decodes flags w .missing-most)) (h .beside-others)
 
 pub printed-short : (flags w : ℕ) (room : List ℕ) (n : ℕ) → printOf flags w (length room) ≡ Length n → n ≤ 47
 printed-short flags w room n e =

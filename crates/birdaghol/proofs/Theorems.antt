@@ -8,7 +8,7 @@ use Prim.Native.Nat.{ℕ, _<_}
 use native.Mathlib.Omega.{arith}
 use lib.Dec.{eqb}
 use lib.ListN.{length}
-use borrow.Author.Tests.{eqb-true, eqb-false, ltb-true, leb-true, eq-eqb, lt-ltb, le-leb}
+use borrow.Author.Tests.{eqb-true, ltb-true, leb-true, eq-eqb, lt-ltb, le-leb}
 use Rattle.isa.specs.Table.{bit, isFormed, ranges, inRange}
 use Rattle.isa.specs.Refusals.{refusalNumber, refusalMissing}
 use Rattle.isa.specs.Answers.{describe, decodeRefusal}
@@ -24,7 +24,7 @@ use Rattle.isa.proofs.Theorems.{decodes, encodes}
 use Rattle.text.specs.Printing.{printOf, printedRefusal, printedLength}
 use Rattle.text.proofs.Theorems.{prints, put-outcome, accepts, same, gives-12, known, unchanged}
 use Rattle.text.specs.Spelling.{Text}
-use Rattle.reader.specs.Answers.{readOf, readingRefusal, readingWord, readNumber, readMissing}
+use Rattle.reader.specs.Answers.{readOf, readingRefusal, readingWord}
 use Rattle.reader.proofs.Theorems.{reads}
 use Rattle.replay.specs.Execution.{refusalOf, outcomeRefusal}
 use Rattle.replay.specs.Lists.{runOf}
@@ -35,7 +35,7 @@ use Rattle.birdaghol.specs.Calls.{answer, sized, operation, packedEncode
 use Rattle.birdaghol.specs.Fields.{numbersIn, describeRefusal}
 use Rattle.birdaghol.specs.Claims.{Unpacks, DecodeUnpacks, DescribeUnpacks, PrintUnpacks, ReadUnpacks, ExecuteUnpacks, RunUnpacks, ElementSize, Formed, PredicatedFits, QuarterFits}
 use Rattle.birdaghol.specs.Claims.{EncodeAnswers, PredicatedAnswers, QuarterAnswers, ZeroAnswers, DescribeAnswers}
-use Rattle.birdaghol.proofs.Packing.{number-fits, sum-fits}
+use Rattle.birdaghol.proofs.Packing.{number-fits, sum-below, sum-fits}
 use Rattle.birdaghol.proofs.Fields.{describe-handed, Described, numbers-described, fields-numbers, fields-rest, fields-encoded}
 
 -- ---- an answer whose sum takes a byte
@@ -56,11 +56,10 @@ print-unpacks flags w room =
     unpacks (printedLength a) (printedRefusal a) (sum-fits (prints flags w room .hands-back))
 
 pub read-unpacks : (flags : ℕ) (t : Text) → ReadUnpacks flags t
-read-unpacks flags t = unpacks (readingWord (readOf flags t)) (readingRefusal (readOf flags t)) (go (eqb (readNumber flags t) 8) refl)
-  where
-    go : (b : Bool) → eqb (readNumber flags t) 8 ≡ b → readMissing flags t < 256
-    go true e = let (w, s, f) = reads flags t .gives-8 .0 (eqb-true _ 8 e) .1 in sum-fits (reads flags t .hands-back w s)
-    go false e = let z = reads flags t .no-sum (eqb-false _ 8 e) in omega arith
+read-unpacks flags t =
+    let r = reads flags t in
+    unpacks (readingWord (readOf flags t)) (readingRefusal (readOf flags t))
+    (sum-below (λ e. let (w, s, f) = r .gives-8 .0 e .1 in sum-fits (r .hands-back w s)) (r .no-sum))
 
 pub execute-unpacks : (m : Machine) (w : ℕ) → ExecuteUnpacks m w
 execute-unpacks m w = let o = refusalOf m w in rw (outcome-back o) (unpacks 0 o (rw (outcome-back o) at (sum-fits (executes m w .hands-back))))

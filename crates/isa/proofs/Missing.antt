@@ -8,7 +8,7 @@ use Prim.Native.Nat.{ℕ, _+_, _/_, _%_, _≤_}
 use native.Mathlib.Omega.{arith}
 use lib.Dec.{eqb, leb}
 use borrow.Author.Tests.{eq-eqb, eqb-true, leb-true, not-true}
-use Rattle.isa.specs.Row.{every, everyBelow}
+use Rattle.isa.specs.Row.{every, everyBelow, matches}
 use Rattle.isa.specs.Table.{Feature, flag, SME, I16I64, MOP4, SME2, allFlags, on, lacking, one?, Entry, table}
 use Rattle.isa.specs.Answers.{lookup, neededBy, missing}
 use Rattle.isa.specs.Claims.{Needs}
@@ -94,7 +94,21 @@ module _ (flags : ℕ) {e : Entry} (m : List·Memᴰ e table) where
   sum-most : lacking flags (e .needs) ≤ allFlags
   sum-most = rw (lacking-low flags (e .needs)) (leb-true _ _ (line-exact .0))
 
--- ---- a word
+-- ---- a word misses what its line lacks, and nothing where it has none
+module _ (flags w : ℕ) where
+  pub missing-at : {e : Entry} → List·Memᴰ e table → matches (e .row) w ≡ true → missing flags w ≡ lacking flags (e .needs)
+  unfolding missing
+  missing-at m q = rw (lookup-found w m q)
+
+  pub missing-by : (P : ℕ → Type 0) → P 0
+      → ((e : Entry) → List·Memᴰ e table → matches (e .row) w ≡ true → P (lacking flags (e .needs))) → P (missing flags w)
+  unfolding missing
+  missing-by P unlisted listed = go (lookup table w) refl
+    where
+      go : (o : Option Entry) → lookup table w ≡ o → P (lacking flags (neededBy o))
+      go none p = unlisted
+      go (some e) p = let (m, q) = lookup-some table e w p in listed e m q
+
 none-on : (f : Feature) → on 0 f ≡ false
 none-on SME = refl
 none-on I16I64 = refl
@@ -103,29 +117,19 @@ none-on SME2 = refl
 
 module _ (flags w : ℕ) where
   missing-needed : (f : Feature) → on (missing flags w) f ≡ true → Needs w f × (on flags f ≡ false)
-  unfolding missing
-  missing-needed f h = go (lookup table w) refl h
-    where
-      go : (o : Option Entry) → lookup table w ≡ o → on (lacking flags (neededBy o)) f ≡ true → Needs w f × (on flags f ≡ false)
-      go none p h = absurd (false≢true (sym (none-on f) ∙ h))
-      go (some e) p h =
-          let (m, q) = lookup-some table e w p in
-          let (n, o) = both (among f (e .needs)) (not (on flags f)) (sym (in-sum flags m f) ∙ h) in
-          ((e, m, q, among-member f (e .needs) n), not-true (on flags f) o)
+  missing-needed f =
+      missing-by flags w (λ n. on n f ≡ true → Needs w f × (on flags f ≡ false)) (λ h. absurd (false≢true (sym (none-on f) ∙ h)))
+      (λ e m q h.
+      let (n, o) = both (among f (e .needs)) (not (on flags f)) (sym (in-sum flags m f) ∙ h) in
+      ((e, m, q, among-member f (e .needs) n), not-true (on flags f) o))
 
   needed-missing : (f : Feature) → Needs w f × (on flags f ≡ false) → on (missing flags w) f ≡ true
-  unfolding missing
   needed-missing f (n, o) =
       let (e, m, q, k) = n in
-      rw (lookup-found w m q) (in-sum flags m f ∙ rw (member-among f (e .needs) k, o))
+      rw (missing-at flags w m q) (in-sum flags m f ∙ rw (member-among f (e .needs) k, o))
 
   pub missing-is : (f : Feature) → (on (missing flags w) f ≡ true) ↔ Needs w f × (on flags f ≡ false)
   missing-is f = (missing-needed f, needed-missing f)
 
   pub missing-most : missing flags w ≤ allFlags
-  unfolding missing
-  missing-most = go (lookup table w) refl
-    where
-      go : (o : Option Entry) → lookup table w ≡ o → lacking flags (neededBy o) ≤ allFlags
-      go none p = omega arith
-      go (some e) p = sum-most flags (lookup-some table e w p .0)
+  missing-most = missing-by flags w (λ n. n ≤ allFlags) (omega arith) (λ e m q. sum-most flags m)

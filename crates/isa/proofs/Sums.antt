@@ -9,7 +9,7 @@ use lib.Dec.{eqb, ltb}
 use borrow.Author.Tests.{eqb-true, eqb-false, not-true}
 use Rattle.isa.specs.Row.{every}
 use Rattle.isa.specs.Refusals.{number, missingIn, refusalNumber, refusalMissing, Test, firstFailure}
-use Rattle.isa.specs.Answers.{missing, flagsTest, listingTests, decodeTests, roomTests}
+use Rattle.isa.specs.Answers.{missing, listingTests, decodeTests, roomTests}
 use Rattle.isa.specs.Claims.{HandsBack}
 use Rattle.isa.specs.declared.Refusal.{Refusal}
 use Rattle.isa.specs.declared.Refusal.the-variants.{Room}
@@ -60,7 +60,7 @@ module _ (flags w : ℕ) where
   listing-fair = (λ p. without-sum (λ e. omega arith), (λ p. with-sum (eqb-false (missing flags w) 0 (not-true _ p)), tt))
 
   pub decode-fair : Fair (decodeTests flags w)
-  decode-fair = fair-++ (flagsTest flags ∷ []) (listingTests flags w) (plain-fair (flagsTest flags ∷ []) refl) listing-fair
+  decode-fair = (λ p. without-sum (λ e. omega arith), listing-fair)
 
   pub room-fair : (n k : ℕ) → Fair (roomTests flags w n k)
   room-fair n k = let ts : List Test = record { fails = ltb n k; gives = Room } ∷ [] in fair-++ (decodeTests flags w) ts decode-fair (plain-fair ts refl)

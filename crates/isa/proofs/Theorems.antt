@@ -7,7 +7,7 @@ use native.Mathlib.Omega.{arith}
 use lib.Dec.{eqb, ltb}
 use borrow.Author.Tests.{eq-eqb, ne-eqb, eqb-true, eqb-false, ltb-true, ltb-false}
 use Rattle.isa.specs.Table.{Entry, table, allFlags, lacking, described, entryOf, inRange, wordFor}
-use Rattle.isa.specs.Answers.{lookup, describedBy, neededBy, describe, missing, decodeTests, decodeOf, decodedNumber, decodeNumber, decodeMissing, encodedNumber, encodedWord, encodeNumber}
+use Rattle.isa.specs.Answers.{lookup, describedBy, describe, missing, decodeTests, decodeOf, decodedNumber, decodeNumber, decodeMissing, encodedNumber, encodedWord, encodeNumber}
 use Rattle.isa.specs.Claims.{Listed, FeaturesOn, HandsBack, Decodes, OnlyWord, Encodes, Describes, OneLine}
 use Rattle.isa.specs.declared.Instruction.{Instruction}
 use Rattle.isa.specs.declared.Refusal.the-variants.{Unlisted, FeatureOff}
@@ -16,7 +16,7 @@ use Rattle.isa.specs.declared.Encoded.the-variants.{Word}
 use Rattle.isa.proofs.Lines.{in-table, described-range, described-word, word-described}
 use Rattle.isa.proofs.Lookup.{lookup-found, lookup-some, lookup-none}
 use Rattle.isa.proofs.Lookup.{one-line as lookup-one-line}
-use Rattle.isa.proofs.Missing.{missing-is, missing-most}
+use Rattle.isa.proofs.Missing.{missing-at, missing-by, missing-is, missing-most}
 use Rattle.isa.proofs.Sums.{handed, decode-fair}
 use Rattle.isa.proofs.Answers.{lacking-none, on-lacking, decode-flags, decode-unlisted, decode-listed, decode-passed, decode-refusal, describe-found, encode-in-range, encode-out-of-range, encoded}
 
@@ -54,14 +54,11 @@ accepted-when flags w h l f =
 unlisted-when : (flags w : ℕ) → flags ≤ allFlags → (Listed w → ⊥) → decodeOf flags w ≡ NotDecoded Unlisted
 unlisted-when flags w h l = decode-unlisted flags w h (not-listed w l)
 
-missing-found : (flags w : ℕ) (e : Entry) → lookup table w ≡ some e → missing flags w ≡ lacking flags (e .needs)
-unfolding missing
-missing-found flags w e p = rw p
-
 feature-when : (flags w : ℕ) → flags ≤ allFlags → Listed w → (FeaturesOn flags w → ⊥) → decodeOf flags w ≡ NotDecoded (FeatureOff (missing flags w))
+unfolding listed-found
 feature-when flags w h l f =
     let (e, p) = listed-found w l in
-    decode-listed flags w e h p ∙ rw (missing-found flags w e p, ne-eqb _ 0 (λ z. f (lacking-features flags w e p z)))
+    decode-listed flags w e h p ∙ rw (missing-at flags w (l .1) (l .2), ne-eqb _ 0 (λ z. f (lacking-features flags w e p z)))
 
 -- the four cases, by the number that decode gives
 data Case (flags w : ℕ) : ℕ → Type 0 where
@@ -111,16 +108,10 @@ module _ (flags w : ℕ) where
   is-8 (gives-8 h l f) = (h, l, f)
 
   none-missing : missing flags w ≡ 0 → FeaturesOn flags w
-  unfolding missing
-  none-missing z e m q = lacking-none flags (e .needs) (rw (lookup-found w m q) at z)
+  none-missing z e m q = lacking-none flags (e .needs) (sym (missing-at flags w m q) ∙ z)
 
   missing-none : FeaturesOn flags w → missing flags w ≡ 0
-  unfolding missing
-  missing-none h = go (lookup table w) refl
-    where
-      go : (o : Option Entry) → lookup table w ≡ o → lacking flags (neededBy o) ≡ 0
-      go none p = refl
-      go (some e) p = features-lacking flags w e p h
+  missing-none h = missing-by flags w (λ n. n ≡ 0) refl (λ e m q. on-lacking flags (e .needs) (h e m q))
 
   hands-back : HandsBack flags w given (decodeMissing flags w)
   hands-back = rw (decode-refusal flags w) (handed flags w (decodeTests flags w) (decode-fair flags w))
@@ -148,8 +139,7 @@ describe-word i h =
 
 -- the word needs the features of the description's line
 pub missing-word : (flags : ℕ) (i : Instruction) → inRange i ≡ true → missing flags (wordFor i) ≡ lacking flags (entryOf i .needs)
-unfolding missing
-missing-word flags i h = rw (lookup-found (wordFor i) (in-table i) (word-described i h .hit))
+missing-word flags i h = missing-at flags (wordFor i) (in-table i) (word-described i h .hit)
 
 -- what a number is described as, some line made of it
 line-found : (w : ℕ) (i : Instruction) → describe w ≡ some i → (e : Entry) × (lookup table w ≡ some e) × (described e w ≡ i)

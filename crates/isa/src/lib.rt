@@ -97,7 +97,7 @@ pub enum Refusal {
     NotText,
 }
 
-// What comes of tests alone.
+// check's answer: nothing is refused, or why something is.
 pub enum Checked {
     Passed,
     Refused(Refusal),

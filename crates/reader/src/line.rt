@@ -1,5 +1,6 @@
 // A line is taken for what it can only spell, and read if that spells the same line.
 ghost use mathlib.Core.Path.{_≡_};
+ghost use mathlib.Core.Bool.{cond};
 ghost use Prim.Native.Nat.{_≤_};
 ghost use lib.ListN.{length, take};
 ghost use Rattle.isa.specs.Answers.{checkedRefusal};
@@ -32,12 +33,20 @@ pub fn read(flags: u32, line: &[u8]) -> Reading
 fn decide(w: u32, spelt: bool, checked: Checked) -> Reading
     ensures { λ r. ⌜ r ≡ verdict w spelt (checkedRefusal checked) ⌝ }
 {
-    if !spelt {
-        return Reading::Refused(Refusal::NotText);
-    }
     match checked {
-        Checked::Passed => Reading::Word(w),
-        Checked::Refused(r) => Reading::Refused(r),
+        Checked::Passed => if_spelt(spelt, Reading::Word(w)),
+        Checked::Refused(r) => if_spelt(spelt, Reading::Refused(r)),
+    }
+}
+
+// Test 13, which comes before the word's own: an answer about a word whose text the line is.
+fn if_spelt(spelt: bool, answer: Reading) -> Reading
+    ensures { λ r. ⌜ r ≡ cond spelt answer (Reading.Refused Refusal.NotText) ⌝ }
+{
+    if spelt {
+        answer
+    } else {
+        Reading::Refused(Refusal::NotText)
     }
 }
 

@@ -9,21 +9,25 @@ pub fn write_refusal(fd: i32, r: Refusal) {
     write_meaning(fd, r);
 }
 
+// The sentences are the Rust crate's, but for 8.
 fn write_meaning(fd: i32, r: Refusal) -> bool {
     match r {
         Refusal::Flags => io::write_all(fd, b"flags are above 15"),
-        Refusal::VectorLength => io::write_all(fd, b"no legal vector length"),
-        Refusal::ZLength => io::write_all(fd, b"Z has another length"),
-        Refusal::PLength => io::write_all(fd, b"P has another length"),
-        Refusal::ZaLength => io::write_all(fd, b"ZA has another length"),
-        Refusal::ListLength => io::write_all(fd, b"the list is too long"),
-        Refusal::Unlisted => io::write_all(fd, b"no listed word"),
+        Refusal::VectorLength => io::write_all(
+            fd,
+            b"the vector length is not 16, 32, 64, 128 or 256 bytes",
+        ),
+        Refusal::ZLength => io::write_all(fd, b"Z does not hold 32 vectors"),
+        Refusal::PLength => io::write_all(fd, b"P does not hold 16 predicates"),
+        Refusal::ZaLength => io::write_all(fd, b"ZA is not a square of the vector length"),
+        Refusal::ListLength => io::write_all(fd, b"the list has more than 65536 words"),
+        Refusal::Unlisted => io::write_all(fd, b"the word is no listed instruction"),
         Refusal::FeatureOff { missing } => write_needs(fd, missing),
-        Refusal::StreamingOff => io::write_all(fd, b"needs streaming mode"),
-        Refusal::ZaOff => io::write_all(fd, b"needs ZA"),
-        Refusal::OutOfRange => io::write_all(fd, b"out of range"),
+        Refusal::StreamingOff => io::write_all(fd, b"an outer product needs streaming mode on"),
+        Refusal::ZaOff => io::write_all(fd, b"the word needs ZA on"),
+        Refusal::OutOfRange => io::write_all(fd, b"a field is out of range"),
         Refusal::Room => io::write_all(fd, b"the room is too short"),
-        Refusal::NotText => io::write_all(fd, b"the text of no listed word"),
+        Refusal::NotText => io::write_all(fd, b"the line is the text of no listed word"),
     }
 }
 

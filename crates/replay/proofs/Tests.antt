@@ -51,9 +51,6 @@ outcome-back none = refl
 outcome-back (some r) = refl
 
 -- ---- what they hand back
-pub machine-fair : (flags w : ℕ) (m : Machine) → Fair flags w (machineTests m)
-machine-fair flags w m = plain-fair flags w (machineTests m) refl
-
 pub word-fair : (b : Bench) (w : ℕ) → Fair (b .flags) w (wordTests b w)
 word-fair b w =
     let modes = modeTests b (modesOf (describe w)) in

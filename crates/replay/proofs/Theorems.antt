@@ -33,7 +33,7 @@ use Rattle.replay.specs.Execution.{machineTests, wordTests, wordRefusal,
 use Rattle.replay.specs.Lists.{played, mostWords, listTest, runTests, ended, keep, before, stop, ran, runOf, runLeft}
 use Rattle.replay.specs.Exchange.{flipS, exchanged}
 use Rattle.replay.specs.Claims.{executeNumber, executeMissing, Keeps, Clears, BenchPasses, FirstFiveOn, Executes, NeedsModes, runNumber, runCount, Ends, Runs}
-use Rattle.replay.proofs.Tests.{outcome-back, machine-fair, word-fair}
+use Rattle.replay.proofs.Tests.{outcome-back, word-fair}
 use Rattle.replay.proofs.Execution.{refusal-by, refused-by-word, after-by}
 use Rattle.replay.proofs.Keeping.{after-keeps, played-keeps, same-refusal, Alike, played-alike, same-tests}
 use Rattle.replay.proofs.Runs.{before-cons, before-none, before-end, stop-cons, stop-here, stop-end}
@@ -79,9 +79,10 @@ module _ (m : Machine) (w : ℕ) where
   unfolding refusalOf
   hands-back =
       let flags = m .bench .flags in
+      let bench = machineTests m in
       let words = wordTests (m .bench) w in
       rw (outcome-back (refusalOf m w))
-      (handed flags w (machineTests m ++ words) (fair-++ flags w (machineTests m) words (machine-fair flags w m) (word-fair (m .bench) w)))
+      (handed flags w (bench ++ words) (fair-++ flags w bench words (plain-fair flags w bench refl) (word-fair (m .bench) w)))
 
   -- what a word gets, and what it leaves
   pub executes : Executes m w

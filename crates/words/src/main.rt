@@ -192,23 +192,27 @@ fn reads_as(line: &[u8], w: u32) -> bool {
     }
 }
 
-// Whether a word misses the same features where none is on and where all others are, and none where these alone are.
+// Whether a word misses, where no feature is on, exactly those that it misses where each by itself is off, and is printed
+// where these alone are on.
 fn features_agree(w: u32) -> bool {
     let sum = missing(0, w);
-    if sum == 0 {
-        return false;
-    }
-    if isa::ALL_FLAGS < sum {
-        return false;
-    }
-    if missing(isa::ALL_FLAGS - sum, w) != sum {
+    if sum as u64 != missing_one_by_one(w) {
         return false;
     }
     let mut room = [FILL; TEXT_ROOM];
     match text::print(sum, w, &mut room) {
-        Printed::Length(_) => true,
+        Printed::Length(_) => sum != 0,
         Printed::Refused(_) => false,
     }
+}
+
+// The sum over the four features of what is missing where that one is off.
+fn missing_one_by_one(w: u32) -> u64 {
+    let sme = missing(isa::ALL_FLAGS - 1, w);
+    let i16i64 = missing(isa::ALL_FLAGS - 2, w);
+    let mop4 = missing(isa::ALL_FLAGS - 4, w);
+    let sme2 = missing(isa::ALL_FLAGS - 8, w);
+    sme as u64 + i16i64 as u64 + mop4 as u64 + sme2 as u64
 }
 
 // The sum that print hands back; 0 if none.

@@ -30,7 +30,7 @@ impl Tally {
         }
     }
 
-    /// Counts a refusal under its number, and under the sum of missing flags if it has a place for one.
+    /// Counts a refusal under its number, and 8 under its sum of missing flags too.
     pub fn refuse(&mut self, refused: Refused) {
         self.refused[refused.number as usize] += 1;
         if refused.number == 8 {
