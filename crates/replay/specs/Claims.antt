@@ -66,7 +66,7 @@ pub record Keeps (m m′ : Machine) : Type 0 where
   pub p : m′ .p ≡ m .p
   pub za-length : length (m′ .za) ≡ length (m .za)
 
--- ---- one word: which number it gets, and what it leaves
+-- ---- one word: what it gets, and what it leaves
 module _ (m : Machine) where
   abbrev pub BenchPasses : Type 0
   BenchPasses = Passes (m .bench) (length (m .z)) (length (m .p)) (length (m .za))
