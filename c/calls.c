@@ -255,6 +255,21 @@ static void stopped_lists(void) {
     expect("run, the second word", run(1 + 2 + 4, (const uint32_t[]){ZERO, UMOPA_2WAY}, 2), packed(1, 8, 8));
 }
 
+/* Lists that stop at a tile with a row that no ZERO before it cleared; tile ZA0.S has the rows of ZA0.D and ZA4.D. */
+static void lists_not_cleared(void) {
+    const uint8_t sum[] = {0x04, 0xFC, 0xFF, 0xFF};
+    uint8_t before[sizeof za];
+    memset(za, 0xA5, sizeof za);
+    memcpy(before, za, sizeof za);
+    expect("run, no ZERO", run(7, (const uint32_t[]){SUMOPA, ZERO}, 2), packed(0, 0, 14));
+    expect("run, its ZA", (uint64_t)memcmp(za, before, sizeof za), 0);
+    expect("run, half of the rows cleared", run(7, (const uint32_t[]){0xC0080001, SUMOPA}, 2), packed(1, 0, 14));
+    expect("run, the other half", run(7, (const uint32_t[]){0xC00800FE, SUMOPA}, 2), packed(1, 0, 14));
+    expect("run, both halves", run(7, (const uint32_t[]){0xC0080001, 0xC0080010, SUMOPA}, 3), packed(3, 0, 0));
+    expect("run, its sum", (uint64_t)memcmp(za, sum, sizeof sum), 0);
+    expect("execute, nothing cleared", execute(7, true, true, VB, SUMOPA), packed(0, 0, 0));
+}
+
 /* The longest list: ZERO, then SUMOPA. With one word more, nothing of it is executed, not even ZERO. */
 static void longest_lists(void) {
     const uint8_t sum[] = {0xFC, 0x03, 0x04, 0xFC};
@@ -281,6 +296,7 @@ int main(void) {
     features();
     other_refusals();
     stopped_lists();
+    lists_not_cleared();
     longest_lists();
     puts(wrong ? "calls from C: wrong" : "calls from C: as they should be");
     return wrong;

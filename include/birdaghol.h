@@ -8,7 +8,8 @@
    Refusals, in the order of the tests, but for 13, which is tested before 8: 1 flags above 15; 2 vb not 16, 32, 64, 128
    or 256; 3, 4, 5 z, p, za of another length; 6 a list of over 65,536 words; 7 a word that is not listed; 8 a word that
    needs a feature that is off; 9 an outer product with streaming mode off; 10 ZA off; 11 a field out of range; 12 a
-   room shorter than the text, or fewer fields than BIRDAGHOL_FIELDS; 13 a line that is no listed word's text.
+   room shorter than the text, or fewer fields than BIRDAGHOL_FIELDS; 13 a line that is no listed word's text; 14 in a
+   list, an outer product on a tile with a row that no ZERO before it has cleared.
 
    Every function answers value * 65536 + missing * 256 + refusal, and BIRDAGHOL_VALUE, BIRDAGHOL_MISSING and
    BIRDAGHOL_REFUSAL take it apart:
@@ -77,13 +78,14 @@ uint64_t birdaghol_encode_zero(uint8_t mask);
    1, 7, 8 or 12, which leaves all of fields as they were. */
 uint64_t birdaghol_describe(uint32_t flags, uint32_t word, uint32_t *fields, size_t fields_len);
 
-/* Executes a word on za. Value: 0. Refusal: 1 to 5 or 7 to 10, which leaves za as it was. */
+/* Executes a word on za, whatever za holds. Value: 0. Refusal: 1 to 5 or 7 to 10, which leaves za as it was. */
 uint64_t birdaghol_execute(uint32_t flags, bool streaming, bool za_on, size_t vb, const uint8_t *z, size_t z_len,
                            const uint8_t *p, size_t p_len, uint8_t *za, size_t za_len, uint32_t word);
 
 /* Executes words in turn, up to the first that is refused. Value: how many were executed, beside a refusal too. It
-   reaches 65,536, which takes 17 bits, and is 0 beside refusals 1 to 6, which leave za as it was. Refusals 7 to 10, and
-   what is missing beside 8, are those of the next word. */
+   reaches 65,536, which takes 17 bits, and is 0 beside refusals 1 to 6, which leave za as it was. Refusals 7 to 10 and
+   14, and what is missing beside 8, are those of the next word. What za held before reaches no tile that an executed
+   word names: each has been cleared by words of this list. 32-bit tile t has the rows of 64-bit tiles t and t + 4. */
 uint64_t birdaghol_run(uint32_t flags, bool streaming, bool za_on, size_t vb, const uint8_t *z, size_t z_len,
                        const uint8_t *p, size_t p_len, uint8_t *za, size_t za_len, const uint32_t *words,
                        size_t words_len);

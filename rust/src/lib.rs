@@ -155,6 +155,7 @@ pub fn execute(bench: Bench, z: &[u8], p: &[u8], za: &mut [u8], word: u32) -> Re
 }
 
 /// Executes a list of at most 65,536 words in turn on the same buffers, up to the first word refused; of a longer one, none.
+/// An outer product is refused too where its tile has a row that no ZERO of the list has cleared before it.
 pub fn run(bench: Bench, z: &[u8], p: &[u8], za: &mut [u8], words: &[u32]) -> Ended {
     // SAFETY: each address stands beside the length of its own slice; `za`, the only one written, is lent alone.
     let (count, refusal) = unpack(unsafe {

@@ -7,7 +7,7 @@ use std::fmt;
 const FEATURES: [(u32, &str); 4] = [(1, "SME"), (2, "I16I64"), (4, "MOP4"), (8, "SME2")];
 
 /// Why an input was refused; the tests are made in this order, but for `NotText`, which comes before `FeatureOff`, and
-/// the first that applies is given.
+/// the first that applies is given. Only runs are refused by `NotCleared`.
 #[derive(Clone, Copy, Debug, PartialEq, Eq)]
 pub enum Refusal {
     Flags,
@@ -26,6 +26,7 @@ pub enum Refusal {
     OutOfRange,
     Room,
     NotText,
+    NotCleared,
 }
 
 impl Refusal {
@@ -45,6 +46,7 @@ impl Refusal {
             Refusal::OutOfRange => 11,
             Refusal::Room => 12,
             Refusal::NotText => 13,
+            Refusal::NotCleared => 14,
         }
     }
 
@@ -75,6 +77,7 @@ impl Refusal {
             11 => Refusal::OutOfRange,
             12 => Refusal::Room,
             13 => Refusal::NotText,
+            14 => Refusal::NotCleared,
             _ => unreachable!("there is no refusal {number}"),
         };
         Some(refusal)
@@ -98,6 +101,7 @@ impl fmt::Display for Refusal {
             Refusal::OutOfRange => "a field is out of range",
             Refusal::Room => "the room is too short",
             Refusal::NotText => "the line is the text of no listed word",
+            Refusal::NotCleared => "the tile has a row that no earlier ZERO of the list cleared",
         })
     }
 }

@@ -218,7 +218,8 @@ fn run() {
         let case = Case::new(random, &LENGTHS);
         let length = if random.chance(50) { MOST_WORDS as u64 + 1 + random.below(99) } else { random.below(33) };
         let good = random.pick(&[7, 8]);
-        let words: Vec<u32> = (0..length).map(|_| sample::word(random, good)).collect();
+        let mut words = sample::zeros(random);
+        words.extend((0..length).map(|_| sample::word(random, good)));
         let (count, refused) = run_both(seed, &case, &words);
         words[..count].iter().for_each(|&word| tally.accept(word));
         tally.accept_at(case.bench.vb, count);
@@ -226,19 +227,50 @@ fn run() {
             tally.refuse(refused);
         }
     }
-    tally.assert_covers(&[1, 2, 3, 4, 5, 6, 7, 8, 9, 10], 100);
+    tally.assert_covers(&[1, 2, 3, 4, 5, 6, 7, 8, 9, 10, 14], 100);
     tally.assert_missing(50);
     tally.assert_lengths(5_000);
 }
 
-/// The longest list is run, one word more is refused. After a ZERO, the words before it would not count.
+/// From another ZA a list ends alike: with the same answer, and the same bytes in the rows that it cleared. Every other row
+/// stays as it was.
+#[test]
+fn run_from_another_za() {
+    let mut ends = [0; 2];
+    for seed in seeds(20_000) {
+        let random = &mut Random::new(seed);
+        let case = Case::new(random, &LENGTHS);
+        let mut words = sample::zeros(random);
+        words.extend((0..random.below(33)).map(|_| sample::word(random, 8)));
+
+        let starts = [case.za.clone(), random.bytes(case.za.len())];
+        let mut left = starts.clone();
+        let [one, other] = left.each_mut().map(|za| birdaghol::run(bench(&case), &case.z, &case.p, za, &words));
+        assert_eq!(one, other, "seed {seed}: {:?}", case.bench);
+
+        let cleared = words[..one.count].iter().fold(0, |mask, &word| mask | sample::zero_mask(word));
+        for (at, bytes) in left[0].iter().zip(&left[1]).enumerate() {
+            let row = at / case.bench.vb.max(1);
+            if cleared >> (row % 8) & 1 == 1 {
+                assert_eq!(bytes.0, bytes.1, "seed {seed}: byte {at}, in a row that was cleared");
+            } else {
+                assert_eq!((*bytes.0, *bytes.1), (starts[0][at], starts[1][at]), "seed {seed}: byte {at}");
+            }
+        }
+        ends[usize::from(one.refusal.is_some())] += 1;
+    }
+    assert!(ends.iter().all(|&count| count >= 2_000), "too few runs end so: {ends:?}");
+}
+
+/// The longest list is run, one word more is refused. After a later ZERO, the words before it would not count.
 #[test]
 fn run_longest_lists() {
     let mut ends = Vec::new();
     for seed in seeds(200) {
         let random = &mut Random::new(seed);
         let case = Case::new(random, &[16]);
-        let words: Vec<u32> = (0..=MOST_WORDS).map(|_| sample::outer_product(random)).collect();
+        let mut words = vec![sample::ZERO_ALL];
+        words.extend((0..MOST_WORDS).map(|_| sample::outer_product(random)));
         ends.push(run_both(seed, &case, &words[..MOST_WORDS]));
         ends.push(run_both(seed, &case, &words));
     }

@@ -72,14 +72,15 @@ fn zero(names: &[&str]) -> String {
     if names.is_empty() { "zero {}".into() } else { format!("zero {{ {} }}", names.join(", ")) }
 }
 
-/// ZA after words at VB 16 with all predicate bits set, from vectors z0 and z1 and the first bytes of ZA.
+/// ZA after words executed singly at VB 16 with all predicate bits set, from vectors z0 and z1 and the first bytes of ZA.
 fn replay(z0: [u8; 16], z1: [u8; 16], start: &[u8], words: &[u32]) -> Vec<u8> {
     let mut z = [z0, z1].concat();
     z.resize(512, 0);
     let mut za = start.to_vec();
     za.resize(256, 0);
-    let ended = run(BENCH, &z, &[0xFF; 32], &mut za, words);
-    assert_eq!(ended, Ended { count: words.len(), refusal: None });
+    for &word in words {
+        assert_eq!(execute(BENCH, &z, &[0xFF; 32], &mut za, word), Ok(()));
+    }
     za
 }
 
@@ -214,6 +215,36 @@ fn lists_stopped_by_a_missing_feature() {
         assert_eq!(ended, Ended { count, refusal: Some(Refusal::FeatureOff { missing }) }, "flags {flags}");
     }
     assert_eq!(try_list(BENCH, &list), Ended { count: 4, refusal: None });
+}
+
+/// A run stops where a tile has a row that no executed ZERO before it cleared; 32-bit tile 0 has the rows of 64-bit tiles
+/// 0 and 4. A word executed singly has no such test.
+#[test]
+fn tiles_that_are_not_cleared() {
+    let zero = |mask: u32| 0xC008_0000 + mask;
+    let stopped = |count| Ended { count, refusal: Some(Refusal::NotCleared) };
+    let whole = |count| Ended { count, refusal: None };
+    for (list, ended) in [
+        (vec![UMOPA], stopped(0)),
+        (vec![UMOPA, ZERO], stopped(0)),
+        (vec![zero(0x01), UMOPA], stopped(1)),
+        (vec![zero(0x10), UMOPA], stopped(1)),
+        (vec![zero(0xEE), UMOPA], stopped(1)),
+        (vec![zero(0x11), UMOPA], whole(2)),
+        (vec![zero(0x01), zero(0x10), UMOPA, UMOPA], whole(4)),
+        (vec![zero(0x01), UMOPA_WIDE, zero(0x10), UMOPA], whole(4)),
+        (vec![zero(0x01), UMOPA_WIDE, UMOPA, zero(0x10)], stopped(2)),
+        (vec![zero(0xFE), UMOPA_WIDE], stopped(1)),
+        (vec![zero(0x11), UMOPA, UMOPA + 1], stopped(2)),
+        (vec![ZERO, UMOPA, zero(0), UMOPA + 3, UMOPA_WIDE + 7], whole(5)),
+    ] {
+        assert_eq!(try_list(BENCH, &list), ended, "{list:08x?}");
+    }
+    assert_eq!(try_word(BENCH, UMOPA), Ok(()));
+    // The tests before it come first, and a refused ZERO clears nothing.
+    let off = Bench { za_on: false, ..BENCH };
+    assert_eq!(try_list(off, &[UMOPA]), Ended { count: 0, refusal: Some(Refusal::ZaOff) });
+    assert_eq!(try_list(off, &[ZERO, UMOPA]), Ended { count: 0, refusal: Some(Refusal::ZaOff) });
 }
 
 #[test]
@@ -420,6 +451,7 @@ fn every_refusal_by_its_name() {
         (encode(Instruction::Predicated { op, tile: 0, pn: 0, pm: 0, zn: 0, zm: 0 }).unwrap_err(), Refusal::OutOfRange),
         (print(7, LONGEST, &mut [0; 46]).unwrap_err(), Refusal::Room),
         (read(7, "zero { }").unwrap_err(), Refusal::NotText),
+        (stopped(BENCH, 512, 32, 256, 1), Refusal::NotCleared),
     ];
     for (number, (refusal, name)) in (1..).zip(refusals) {
         assert_eq!((refusal, refusal.number()), (name, number));

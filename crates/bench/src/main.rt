@@ -34,6 +34,10 @@ const USMOP4S_WIDE: u32 = 0xA1C0_001F;
 
 const ZERO_ALL: u32 = 0xC008_00FF;
 
+const ZERO_ZA0_WIDE: u32 = 0xC008_0001;
+
+const ZERO_ZA4_WIDE: u32 = 0xC008_0010;
+
 // UMOPA on ZA1.S and on ZA5.D, with Z0 and Z1.
 const UMOPA_ZA1: u32 = 0xA1A1_0001;
 
@@ -93,6 +97,8 @@ fn words_executed() {
     text_of(FLAGS, UMOPA_ZA1);
     text_of(FLAGS, UMOPA_ZA5_WIDE);
     text_of(FLAGS, ZERO_ALL);
+    text_of(FLAGS, ZERO_ZA0_WIDE);
+    text_of(FLAGS, ZERO_ZA4_WIDE);
 }
 
 fn two_way_words() {
@@ -212,7 +218,12 @@ fn features() {
     let z = plus_one();
     let p = [0xFFu8; 32];
     features_executed(&z, &p);
-    list_example(b"umopa, then smopa, 2-way", &z, &p, &[UMOPA, SMOPA_TWO_WAY]);
+    list_example(
+        b"zero, umopa, then smopa, 2-way",
+        &z,
+        &p,
+        &[ZERO_ALL, UMOPA, SMOPA_TWO_WAY],
+    );
 }
 
 // 8 comes before the modes are tested.
@@ -230,13 +241,21 @@ fn features_executed(z: &[u8], p: &[u8]) {
     );
 }
 
-// As C-16 of document 02 amends the example.
+// As C-16 and C-17 of document 02 amend the example; and lists that do not clear ZA0.S, which has the rows of ZA0.D and ZA4.D.
 fn lists() {
     let z = plus_one();
     let p = [0xFFu8; 32];
-    let words = list_of_umopa();
+    let words = zero_and_umopas();
     list_example(b"65536 words", &z, &p, all_but_last(&words));
     list_example(b"65537 words", &z, &p, &words);
+    list_example(b"umopa, then zero", &z, &p, &[UMOPA, ZERO_ALL]);
+    list_example(b"zero of za0.d, umopa", &z, &p, &[ZERO_ZA0_WIDE, UMOPA]);
+    list_example(
+        b"zero of za0.d and of za4.d, umopa",
+        &z,
+        &p,
+        &[ZERO_ZA0_WIDE, ZERO_ZA4_WIDE, UMOPA],
+    );
 }
 
 // A Z with which an outer product of Z0 and Z0 adds 1 at (0, 0), in either width, and nothing elsewhere.
@@ -308,10 +327,12 @@ fn length_of(vb: usize) -> Bench {
 }
 
 // Apart, so that proofs take the array by its length alone: it is too long to compute with.
-fn list_of_umopa() -> [u32; LIST_ROOM]
+fn zero_and_umopas() -> [u32; LIST_ROOM]
     ensures { λ r. ⌜ mostWords + 1 ≡ length r ⌝ }
 {
-    [UMOPA; LIST_ROOM]
+    let mut words = [UMOPA; LIST_ROOM];
+    words[0] = ZERO_ALL;
+    words
 }
 
 // What a person is told of the refusals that no example gets.

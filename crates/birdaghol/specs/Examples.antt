@@ -74,6 +74,12 @@ examples =
     ∷ record { call = ran true true 32 (0xC00800FF ∷ 0xA0800008 ∷ 0xA0800000 ∷ []); gives = 65536 + 8 * 256 + 8 }
     ∷ record { call = ran false true 32 (0xC00800FF ∷ 0xA0800000 ∷ []); gives = 65536 + 9 }
     ∷ record { call = ran true true 31 []; gives = 4 }
+    -- runs on a tile that is not cleared, or half of it; 10 before 14; and its rows cleared, no others
+    ∷ record { call = ran true true 32 (0xA0800000 ∷ 0xC00800FF ∷ []); gives = 14 }
+    ∷ record { call = ran true true 32 (0xC00800FE ∷ 0xA0800000 ∷ []); gives = 65536 + 14 }
+    ∷ record { call = ran true true 32 (0xC0080001 ∷ 0xA0800000 ∷ []); gives = 65536 + 14 }
+    ∷ record { call = ran true false 32 (0xA0800000 ∷ []); gives = 10 }
+    ∷ record { call = ran true true 32 (0xC0080011 ∷ 0xA0800000 ∷ []); gives = 2 * 65536 }
     ∷ []
 
 -- ---- reads: flags, a line, and the answer

@@ -15,6 +15,8 @@ const SUMOPA: u32 = 0xA0A0_0000;
 
 const ZERO_ALL: u32 = 0xC008_00FF;
 
+const ZERO_ZA0_WIDE: u32 = 0xC008_0001;
+
 const UNLISTED: u32 = 0x8100_0010;
 
 const SMOPA_TWO_WAY: u32 = 0xA080_0008;
@@ -241,8 +243,26 @@ fn runs(z: &[u8], p: &[u8]) {
     bytes(&za);
     answer(
         b"run, without sme2",
-        birdaghol_run(7, true, true, 16, z, p, &mut za, &[SUMOPA, SMOPA_TWO_WAY]),
+        birdaghol_run(
+            7,
+            true,
+            true,
+            16,
+            z,
+            p,
+            &mut za,
+            &[ZERO_ALL, SUMOPA, SMOPA_TWO_WAY],
+        ),
     );
+    answer(
+        b"run, nothing cleared",
+        birdaghol_run(7, true, true, 16, z, p, &mut za, &[SUMOPA, ZERO_ALL]),
+    );
+    answer(
+        b"run, half of the tile cleared",
+        birdaghol_run(7, true, true, 16, z, p, &mut za, &[ZERO_ZA0_WIDE, SUMOPA]),
+    );
+    bytes(&za);
     answer(
         b"Z and P exchanged",
         birdaghol_run(7, true, true, 16, p, z, &mut za, &words),

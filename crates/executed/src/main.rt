@@ -1,5 +1,6 @@
-// Runs lists of words, with every feature and both modes on, and compares ZA afterwards with a checksum. The lists are
-// on standard input; the head of the file stdin says what a line holds and how Z, P and ZA are made from its seed.
+// Executes lists of words, with every feature and both modes on, and compares ZA afterwards with a checksum. Each word is
+// executed singly: a run would refuse lists that add to what ZA held. The lists are on standard input; the head of the file
+// stdin says what a line holds and how Z, P and ZA are made from its seed.
 ghost use Prim.Native.Nat.{_≤_};
 ghost use lib.ListN.{length};
 use checks::Fill;
@@ -188,7 +189,7 @@ fn decimal_of(text: &[u8]) -> Number {
     Number::Value(n)
 }
 
-// Whether the run agrees; here the bench and the room for Z, P and ZA are made.
+// Whether the list agrees; here the bench and the room for Z, P and ZA are made.
 fn agrees(vb: usize, seed: u32, fill: Fill, words: &[u32], checksum: u32) -> bool
     requires { ⌜ vb ≤ 256 ⌝ }
 {
@@ -202,7 +203,7 @@ fn agrees(vb: usize, seed: u32, fill: Fill, words: &[u32], checksum: u32) -> boo
         vb,
     };
     let rows = vb * vb;
-    runs_to(
+    leaves(
         bench,
         seed,
         fill,
@@ -214,8 +215,8 @@ fn agrees(vb: usize, seed: u32, fill: Fill, words: &[u32], checksum: u32) -> boo
     )
 }
 
-// Whether the run takes every word and leaves a ZA with the checksum.
-fn runs_to(
+// Whether every word is executed and leaves a ZA with the checksum.
+fn leaves(
     bench: Bench,
     seed: u32,
     fill: Fill,
@@ -228,17 +229,23 @@ fn runs_to(
     let after_z = checks::generate(seed, fill, z);
     let after_p = checks::generate(after_z, fill, p);
     checks::generate(after_p, fill, za);
-    let ended = replay::run(bench, z, p, za, words);
-    let outcome = ended.outcome;
-    match outcome {
-        replay::Outcome::Refused(_) => false,
-        replay::Outcome::Done => {
-            if ended.count != words.len() {
-                return false;
-            }
-            checksum_of(za) == checksum as u64
-        }
+    if !executes(bench, z, p, za, words) {
+        return false;
     }
+    checksum_of(za) == checksum as u64
+}
+
+// Whether no word is refused.
+fn executes(bench: Bench, z: &[u8], p: &[u8], za: &mut [u8], words: &[u32]) -> bool {
+    let mut i = 0;
+    while i < words.len() {
+        let outcome = replay::execute(bench, z, p, za, words[i]);
+        if let replay::Outcome::Refused(_) = outcome {
+            return false;
+        }
+        i += 1;
+    }
+    true
 }
 
 fn checksum_of(bytes: &[u8]) -> u64 {

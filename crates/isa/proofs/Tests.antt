@@ -1,7 +1,7 @@
 -- Lists of tests: all hold together exactly when each holds, however they are joined; and a test of every number below a
 -- bound. Assumes nothing.
 use mathlib.Core.Path.{_≡_, refl, sym}
-use mathlib.Core.Bool.{Bool, Bool·beq, true, false, _&&_}
+use mathlib.Core.Bool.{Bool, Bool·beq, true, false, true≢false, _&&_}
 use mathlib.Core.List.{List, [], _∷_}
 use Prim.Native.Nat.{ℕ, zero, suc, _<_}
 use native.Mathlib.Omega.{arith}
@@ -60,3 +60,11 @@ below f (suc n) k p h = go (f n) refl p (eqb k n) refl (below f n k)
 pub all-below : (f : ℕ → Bool) (n : ℕ) → ((k : ℕ) → k < n → f k ≡ true) → everyBelow f n ≡ true
 all-below f zero h = refl
 all-below f (suc n) h = rw (h n (omega arith)) (all-below f n (λ k l. h k (omega arith)))
+
+pub one-below : (f : ℕ → Bool) (n : ℕ) → everyBelow f n ≡ false → (k : ℕ) × (k < n) × (f k ≡ false)
+one-below f zero h = absurd (true≢false h)
+one-below f (suc n) h = go (f n) refl h (one-below f n)
+  where
+    go : (b : Bool) → f n ≡ b → b && everyBelow f n ≡ false → (everyBelow f n ≡ false → (k : ℕ) × (k < n) × (f k ≡ false)) → (k : ℕ) × (k < suc n) × (f k ≡ false)
+    go false e h rest = (n, omega arith, e)
+    go true e h rest = let (k, l, q) = rest h in (k, omega arith, q)

@@ -1,11 +1,11 @@
--- Refusals: their numbers, what 8 hands back, and the order of tests (document 01, "Refusal numbers", and document 02, C-11
--- and C-15).
+-- Refusals: their numbers, what 8 hands back, and the order of tests (document 01, "Refusal numbers", and document 02, C-11,
+-- C-15 and C-17).
 use mathlib.Core.Bool.{Bool, cond}
 use mathlib.Core.List.{List, [], _∷_}
 use mathlib.Core.Option.{Option, none, some}
 use Prim.Native.Nat.{ℕ}
 use Rattle.isa.specs.declared.Refusal.{Refusal}
-use Rattle.isa.specs.declared.Refusal.the-variants.{Flags, VectorLength, ZLength, PLength, ZaLength, ListLength, Unlisted, FeatureOff, StreamingOff, ZaOff, OutOfRange, Room, NotText}
+use Rattle.isa.specs.declared.Refusal.the-variants.{Flags, VectorLength, ZLength, PLength, ZaLength, ListLength, Unlisted, FeatureOff, StreamingOff, ZaOff, OutOfRange, Room, NotText, NotCleared}
 
 abbrev pub number : Refusal → ℕ
 number Flags = 1
@@ -21,6 +21,7 @@ number ZaOff = 10
 number OutOfRange = 11
 number Room = 12
 number NotText = 13
+number NotCleared = 14
 
 -- the sum of flags that a refusal hands back; 0 beside any number but 8
 abbrev pub missingIn : Refusal → ℕ
@@ -37,6 +38,7 @@ missingIn ZaOff = 0
 missingIn OutOfRange = 0
 missingIn Room = 0
 missingIn NotText = 0
+missingIn NotCleared = 0
 
 -- both are 0 where there is none
 abbrev pub refusalNumber : Option Refusal → ℕ

@@ -95,6 +95,7 @@ pub enum Refusal {
     OutOfRange,
     Room,
     NotText,
+    NotCleared,
 }
 
 // check's answer: nothing is refused, or why something is.

@@ -1,4 +1,4 @@
-// The numbers of the refusals, and what 8 hands back (document 01, "Refusal numbers", and document 02, C-11 and C-15).
+// The numbers of the refusals, and what 8 hands back (document 01, "Refusal numbers", and document 02, C-11, C-15 and C-17).
 ghost use mathlib.Core.Path.{_≡_};
 ghost use Rattle.isa.specs.Refusals.{number as numberOf, missingIn};
 use crate::Refusal;
@@ -21,6 +21,7 @@ pub fn number(r: Refusal) -> u32
         Refusal::OutOfRange => 11,
         Refusal::Room => 12,
         Refusal::NotText => 13,
+        Refusal::NotCleared => 14,
     }
 }
 
@@ -42,5 +43,6 @@ pub fn missing_in(r: Refusal) -> u32
         Refusal::OutOfRange => 0,
         Refusal::Room => 0,
         Refusal::NotText => 0,
+        Refusal::NotCleared => 0,
     }
 }

@@ -28,6 +28,10 @@ fn write_meaning(fd: i32, r: Refusal) -> bool {
         Refusal::OutOfRange => io::write_all(fd, b"a field is out of range"),
         Refusal::Room => io::write_all(fd, b"the room is too short"),
         Refusal::NotText => io::write_all(fd, b"the line is the text of no listed word"),
+        Refusal::NotCleared => io::write_all(
+            fd,
+            b"the tile has a row that no earlier ZERO of the list cleared",
+        ),
     }
 }
 

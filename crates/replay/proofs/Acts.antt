@@ -1,10 +1,11 @@
--- A list of actions on ZA, each idle or adding to a tile: forward and back, in another order, the totals, and row by row.
--- Assumes nothing.
+-- A list of actions on ZA, each idle or adding to a tile: forward and back, in another order, the totals, and row by row; and
+-- with rows cleared between them. Assumes nothing.
 use mathlib.Core.Path.{_≡_, refl, sym, ap, ap₂, _∙_, subst}
 use mathlib.Core.Logic.{_⊎_, inl, inr}
-use mathlib.Core.Bool.{Bool, false, _&&_, cond}
+use mathlib.Core.Bool.{Bool, true, false, false≢true, _&&_, _||_, cond}
 use mathlib.Core.List.{List, [], _∷_, map, reverse, reverse-cons, foldl, foldl-append, List·Mem, mem-cons-self, mem-cons-of-mem}
 use mathlib.Core.List.{List·Permᴰ, List·Permᴰ·nil, List·Permᴰ·cons, List·Permᴰ·swap, List·Permᴰ·trans, List·Permᴰ·mem, Permᴰ·symm}
+use mathlib.Core.Option.{Option, none as no-mask, some}
 use Prim.Native.Nat.{ℕ, _/_, _%_, _<_}
 use native.Mathlib.Decide.{ℕ-discrete}
 use lib.Dec.{eqb}
@@ -13,13 +14,15 @@ use lib.IntN.{ℤ, pos, _+ℤ_}
 use borrow.Author.Tests.{eqb-false, eq-eqb, ne-eqb}
 use Rattle.storage.specs.Bytes.{at}
 use Rattle.storage.specs.Modulo.{plus}
-use Rattle.storage.specs.Tile.{inTile, element, addTo}
+use Rattle.storage.specs.Tile.{inTile, element, masked, addTo, clear}
 use Rattle.storage.proofs.Modulo.{plus-plus, plus-nil}
-use Rattle.storage.proofs.Changes.{Disjoint}
+use Rattle.storage.proofs.Changes.{Disjoint, Rows}
 use Rattle.storage.proofs.Tiles.{Sized, negated, apart-same, apart-widths}
 use Rattle.storage.proofs.Laws.{Good, Inside, addTo-good, addTo-back, addTo-swap, addTo-comm, addTo-row, addTo-out, addTo-length}
 use Rattle.storage.proofs.Laws.{element-add, element-apart, element-lt}
+use Rattle.storage.proofs.Clearing.{clear-length, clear-in, clear-out}
 use Rattle.storage.proofs.Sizes.{Length, sized4, sized8}
+use Rattle.replay.specs.Clearing.{inMask}
 
 -- what a word does: nothing, or it adds f to tile t of elements of E bytes
 pub data Act : Type 0 where
@@ -135,11 +138,11 @@ module _ (vb : ℕ) (l : Length vb) where
   step-stays idle j za p h u = refl
   step-stays (add E t f) j za p h u = addTo-out E vb vb (sized j) t f za p h (u E t f refl)
 
-  step-agree : (a : Act) → Fit a → (r : ℕ) (za zb : List ℕ) → Good vb vb za → Agree vb r za zb → Agree vb r (step vb a za) (step vb a zb)
+  step-agree : (a : Act) → Fit a → (r : ℕ) (za zb : List ℕ) → Rows vb vb za → Agree vb r za zb → Agree vb r (step vb a za) (step vb a zb)
   step-agree idle j r za zb k h = h
   step-agree (add E t f) j r za zb k h = record {
     long = addTo-length E vb t f za ∙ h .long ∙ sym (addTo-length E vb t f zb);
-    agree = λ p i e. addTo-row E vb vb (sized j) t f za zb r (k .rows) (h .long) (h .agree) p (rw (addTo-length E vb t f za) at i) e;
+    agree = λ p i e. addTo-row E vb vb (sized j) t f za zb r k (h .long) (h .agree) p (rw (addTo-length E vb t f za) at i) e;
   }
 
   module _ (E t row col : ℕ) (w : Width E) (i : Inside E vb t vb row col) where
@@ -213,7 +216,7 @@ module _ {W : Type 0} (act : W → Act) where
     pub rows-apart : (ws : List W) (r : ℕ) (za zb : List ℕ) → Good vb vb za → Agree vb r za zb → Agree vb r (acted vb za ws) (acted vb zb ws)
     rows-apart [] r za zb k h = h
     rows-apart (a ∷ ws) r za zb k h =
-        rows-apart ws r (step vb (act a) za) (step vb (act a) zb) (step-good vb l (act a) (fit a) za k) (step-agree vb l (act a) (fit a) r za zb k h)
+        rows-apart ws r (step vb (act a) za) (step vb (act a) zb) (step-good vb l (act a) (fit a) za k) (step-agree vb l (act a) (fit a) r za zb (k .rows) h)
 
 -- ---- any way to go on from word to word
 module _ {W : Type 0} (vb : ℕ) (l : Length vb) (next : List ℕ → W → List ℕ) (act : W → Act) (fit : (w : W) → Fit (act w)) where
@@ -240,3 +243,96 @@ module _ {W : Type 0} (vb : ℕ) (l : Length vb) (next : List ℕ → W → List
       ∙ ap (λ (z : List ℕ). next z (flip w))
       (there-and-back flip ws (next za w) g (λ v x. d v (mem-cons-of-mem w x)) (λ v x. f v (mem-cons-of-mem w x)) (λ v x. u v (mem-cons-of-mem w x)))
       ∙ f w m .does (next za w) g ∙ ap₂ (step vb) (u w m) (d w m .does za k) ∙ step-undo vb l (act w) (fit w) za k
+
+-- ---- clearing beside adding: after its action a word clears the rows of a mask, if it has one
+abbrev pub wipe : ℕ → Option ℕ → List ℕ → List ℕ
+wipe vb no-mask za = za
+wipe vb (some mask) za = clear vb mask za
+
+module _ (vb : ℕ) where
+  wipe-length : (q : Option ℕ) (za : List ℕ) → length (wipe vb q za) ≡ length za
+  wipe-length no-mask za = refl
+  wipe-length (some mask) za = clear-length vb mask za
+
+  -- a row of the mask is alike, whatever it held
+  wipe-same : (q : Option ℕ) (r : ℕ) (za zb : List ℕ) → length za ≡ length zb → inMask q r ≡ true → Agree vb r (wipe vb q za) (wipe vb q zb)
+  wipe-same no-mask r za zb e h = absurd (false≢true h)
+  wipe-same (some mask) r za zb e h = record {
+    long = clear-length vb mask za ∙ e ∙ sym (clear-length vb mask zb);
+    agree =
+        λ p i j.
+        let g : p < length za = rw clear-length at i in
+        clear-in vb mask za p g (rw j h) ∙ sym (clear-in vb mask zb p (rw (← e) g) (rw j h));
+  }
+
+  -- a row that was alike stays so
+  wipe-agree : (q : Option ℕ) (r : ℕ) (za zb : List ℕ) → Agree vb r za zb → Agree vb r (wipe vb q za) (wipe vb q zb)
+  wipe-agree no-mask r za zb h = h
+  wipe-agree (some mask) r za zb h = go (masked mask r) refl
+    where
+      go : (b : Bool) → masked mask r ≡ b → Agree vb r (clear vb mask za) (clear vb mask zb)
+      go true m = wipe-same (some mask) r za zb (h .long) m
+      go false m = record {
+        long = clear-length vb mask za ∙ h .long ∙ sym (clear-length vb mask zb);
+        agree =
+            λ p i j.
+            let g : p < length za = rw clear-length at i in
+            clear-out vb mask za p g (rw j m) ∙ h .agree p g j ∙ sym (clear-out vb mask zb p (rw (← h .long) g) (rw j m));
+      }
+
+  wipe-stays : (q : Option ℕ) (za : List ℕ) (p : ℕ) → p < length za → inMask q (p / vb) ≡ false → at (wipe vb q za) p ≡ at za p
+  wipe-stays no-mask za p h m = refl
+  wipe-stays (some mask) za p h m = clear-out vb mask za p h m
+
+-- ---- a list of words, each with its action and its mask
+module _ {W : Type 0} (act : W → Act) (mask : W → Option ℕ) where
+  abbrev pub turn : ℕ → List ℕ → W → List ℕ
+  turn vb za w = wipe vb (mask w) (step vb (act w) za)
+
+  abbrev pub turned : ℕ → List ℕ → List W → List ℕ
+  turned vb za ws = foldl (turn vb) za ws
+
+  -- row r is of a mask of the list
+  abbrev pub clearing : List W → ℕ → Bool
+  clearing [] r = false
+  clearing (w ∷ ws) r = inMask (mask w) r || clearing ws r
+
+  -- row r is of no mask of the list, and of no tile that it names
+  abbrev pub Spared : ℕ → List W → Type 0
+  Spared r [] = Unit {0}
+  Spared r (w ∷ ws) = ((inMask (mask w) r ≡ false) × ((E t : ℕ) (f : ℕ → ℕ → ℤ) → act w ≡ add E t f → inTile E t r ≡ false)) × Spared r ws
+
+  module _ (fit : (w : W) → Fit (act w)) (vb : ℕ) (l : Length vb) where
+    pub turn-length : (w : W) (za : List ℕ) → length (turn vb za w) ≡ length za
+    turn-length w za = wipe-length vb (mask w) (step vb (act w) za) ∙ step-length vb l (act w) za
+
+    turn-rows : (w : W) (za : List ℕ) → Rows vb vb za → Rows vb vb (turn vb za w)
+    turn-rows w za k = record { positive = k .positive; whole = turn-length w za ∙ k .whole }
+
+    -- a row that both have alike ends the same
+    alike-rows : (ws : List W) (r : ℕ) (za zb : List ℕ) → Rows vb vb za → Agree vb r za zb → Agree vb r (turned vb za ws) (turned vb zb ws)
+    alike-rows [] r za zb k h = h
+    alike-rows (w ∷ ws) r za zb k h =
+        alike-rows ws r _ _ (turn-rows w za k) (wipe-agree vb (mask w) r _ _ (step-agree vb l (act w) (fit w) r za zb k h))
+
+    -- a row that a word clears ends the same, whatever both held, wherever in the list that word stands
+    pub cleared-rows : (ws : List W) (r : ℕ) (za zb : List ℕ) → Rows vb vb za → length za ≡ length zb → clearing ws r ≡ true
+        → Agree vb r (turned vb za ws) (turned vb zb ws)
+    cleared-rows [] r za zb k e c = absurd (false≢true c)
+    cleared-rows (w ∷ ws) r za zb k e c =
+        go (inMask (mask w) r) refl c (cleared-rows ws r _ _ (turn-rows w za k) (turn-length w za ∙ e ∙ sym (turn-length w zb)))
+      where
+        go : (b : Bool) → inMask (mask w) r ≡ b → b || clearing ws r ≡ true → (clearing ws r ≡ true → Agree vb r (turned vb za (w ∷ ws)) (turned vb zb (w ∷ ws)))
+            → Agree vb r (turned vb za (w ∷ ws)) (turned vb zb (w ∷ ws))
+        go true m h later =
+            let d = step-length vb l (act w) za ∙ e ∙ sym (step-length vb l (act w) zb) in
+            alike-rows ws r _ _ (turn-rows w za k) (wipe-same vb (mask w) r _ _ d m)
+        go false m h later = later h
+
+    -- a row that is spared stays
+    pub spared-rows : (ws : List W) (za : List ℕ) (p : ℕ) → p < length za → Spared (p / vb) ws → at (turned vb za ws) p ≡ at za p
+    spared-rows [] za p h s = refl
+    spared-rows (w ∷ ws) za p h s =
+        spared-rows ws (turn vb za w) p (rw (turn-length w za) h) (s .1)
+        ∙ wipe-stays vb (mask w) (step vb (act w) za) p (rw (step-length vb l (act w) za) h) (s .0 .0)
+        ∙ step-stays vb l (act w) (fit w) za p h (s .0 .1)

@@ -1,6 +1,6 @@
 -- What stays under outer products and ZERO: the bench, Z, P and the length of ZA, so that an answer stays too; and what tests
 -- 1 to 5 ask. Assumes nothing.
-use mathlib.Core.Path.{_≡_, _∙_, refl, ap}
+use mathlib.Core.Path.{_≡_, _∙_, refl, sym, ap}
 use mathlib.Core.List.{List, [], _∷_}
 use mathlib.Core.Option.{Option, none, some}
 use Prim.Native.Nat.{ℕ}
@@ -23,6 +23,9 @@ keeps-refl m = record { bench = refl; z = refl; p = refl; za-length = refl }
 
 pub keeps-trans : {m n o : Machine} → Keeps m n → Keeps n o → Keeps m o
 keeps-trans k l = record { bench = l .bench ∙ k .bench; z = l .z ∙ k .z; p = l .p ∙ k .p; za-length = l .za-length ∙ k .za-length }
+
+pub keeps-sym : {m n : Machine} → Keeps m n → Keeps n m
+keeps-sym k = record { bench = sym (k .bench); z = sym (k .z); p = sym (k .p); za-length = sym (k .za-length) }
 
 pub za-keeps : (m : Machine) (za : List ℕ) → length za ≡ length (m .za) → Keeps m (withZa m za)
 za-keeps m za e = record { bench = refl; z = refl; p = refl; za-length = e }

@@ -11,3 +11,5 @@ pub mod Links
 pub mod Demand3
 pub mod Numbers
 pub mod Theorems
+pub mod Masks
+pub mod Independence

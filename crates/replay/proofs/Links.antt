@@ -1,5 +1,5 @@
--- Words as actions on ZA: an accepted outer product adds to its tile, a refused word is idle, and a word exchanged undoes it.
--- Assumes nothing.
+-- Words as actions on ZA: an accepted outer product adds to its tile, a refused word is idle, and a word exchanged undoes it;
+-- an accepted ZERO clears the rows of its mask. Assumes nothing.
 use mathlib.Core.Path.{_≡_, refl, sym, ap, ap₂, _∙_, subst, fun-ext}
 use mathlib.Core.Bool.{Bool, true, false, false≢true, _&&_, cond}
 use mathlib.Core.List.{List, [], _∷_, foldl, List·Mem}
@@ -8,14 +8,13 @@ use Prim.Native.Nat.{ℕ, _%_, _^_, _<_}
 use lib.Dec.{eqb}
 use lib.ListN.{length}
 use lib.IntN.{ℤ, pos, _+ℤ_}
-use borrow.Author.Tests.{eqb-true, eq-eqb, ne-eqb, ltb-true}
-use Rattle.isa.specs.Table.{elementBytes, ranges, inRange}
+use borrow.Author.Tests.{eqb-true, eq-eqb, ne-eqb}
+use Rattle.isa.specs.Table.{elementBytes, inRange}
 use Rattle.isa.specs.Answers.{absent, describe}
 use Rattle.isa.specs.declared.Operation.{Operation}
 use Rattle.isa.specs.declared.Refusal.{Refusal}
 use Rattle.isa.specs.declared.Instruction.{Instruction}
 use Rattle.isa.specs.declared.Instruction.the-variants.{Predicated, Quarter, Zero}
-use Rattle.isa.proofs.Tests.{every-all}
 use Rattle.isa.proofs.Rows.{both}
 use Rattle.isa.proofs.Theorems.{described-is}
 use Rattle.storage.specs.Tile.{clear}
@@ -24,13 +23,16 @@ use Rattle.outer.proofs.Negation.{otherWay, dot-negated}
 use Rattle.replay.specs.Machine.{Machine, withZa}
 use Rattle.replay.specs.Operands.{predicatedOuter, quarterOuter}
 use Rattle.replay.specs.Instructions.{isOuter, maskOf, modesOf, TileName, tileNamed, isTile, namesTile}
-use Rattle.replay.specs.Execution.{refusalOf, none?, accepted, Addition, outerAddition, additionOf, effect, unless, leftBy, after}
+use Rattle.replay.specs.Execution.{refusalOf, none?, accepted, Addition, outerAddition, additionOf, added, cleared, effect, unless, leftBy, after}
 use Rattle.replay.specs.Lists.{played}
 use Rattle.replay.specs.Exchange.{flipS, exchanged}
 use Rattle.replay.specs.Demand3.{reversed, sumAt, total, Names, Apart}
 use Rattle.replay.proofs.Execution.{after-by}
+use Rattle.replay.proofs.Ready.{predicated-tile, quarter-tile}
 use Rattle.replay.proofs.Keeping.{za-keeps, after-keeps, kept-is, same-refusal}
+use Rattle.storage.proofs.Sizes.{Length}
 use Rattle.replay.proofs.Acts.{Act, idle, add, step, undo, Width, narrow, wide, Fit, shares, gives, given, Clean}
+use Rattle.replay.proofs.Acts.{wipe, turn, turned, turn-length}
 use Rattle.replay.proofs.Twins.{Twin, twin}
 
 -- ---- lists on one bench, Z and P, as they go from ZA to ZA
@@ -49,12 +51,17 @@ action (some r) x = idle
 action none none = idle
 action none (some a) = add (a .E) (a .tile) (a .sum)
 
+-- the mask of rows that are cleared then
+abbrev wiping : Option Refusal → Option ℕ → Option ℕ
+wiping (some r) q = none
+wiping none q = q
+
 abbrev tileOf : Option Addition → Option TileName
 tileOf none = none
 tileOf (some a) = some (record { E = a .E; tile = a .tile })
 
 -- ---- what an instruction adds: outer products add to the tile that they name, by elements of 4 bytes or 8, and clear nothing
-element-width : (op : Operation) → Width (elementBytes op)
+pub element-width : (op : Operation) → Width (elementBytes op)
 element-width op = go (op .wide)
   where
     go : (b : Bool) → Width (cond b 8 4)
@@ -85,6 +92,13 @@ module _ (m : Machine) where
       → unless r m (effect m d) .za ≡ step (m .bench .vb) (action r (additionOf m d)) (m .za)
   action-does (some r) d h = refl
   action-does none d h = let (a, e, c) = outer-adds d (h refl) in rw (e, c)
+
+  -- every instruction, by what it adds and what it clears
+  effect-turns : (x : Option Addition) (q : Option ℕ) → cleared (added m x) q .za ≡ wipe (m .bench .vb) q (step (m .bench .vb) (action none x) (m .za))
+  effect-turns none none = refl
+  effect-turns none (some mask) = refl
+  effect-turns (some a) none = refl
+  effect-turns (some a) (some mask) = refl
 
   -- the other way
   abbrev byProducts : OuterProduct → Act
@@ -126,10 +140,10 @@ action-gives E t row col none (some a) = refl
 tile-lt : (E t : ℕ) (i : Instruction) → inRange i ≡ true → namesTile E t (some i) ≡ true → t < E
 tile-lt E t (Predicated op tile pn pm zn zm) h a =
     let (x, y) = both (eqb (elementBytes op) E) (eqb (tile .0) t) a in
-    rw (← eqb-true (elementBytes op) E x, ← eqb-true (tile .0) t y) (ltb-true _ _ (every-all (ranges (Predicated op tile pn pm zn zm)) h .1 .0))
+    rw (← eqb-true (elementBytes op) E x, ← eqb-true (tile .0) t y) (predicated-tile op tile pn pm zn zm h)
 tile-lt E t (Quarter op tile first second) h a =
     let (x, y) = both (eqb (elementBytes op) E) (eqb (tile .0) t) a in
-    rw (← eqb-true (elementBytes op) E x, ← eqb-true (tile .0) t y) (ltb-true _ _ (every-all (ranges (Quarter op tile first second)) h .1 .0))
+    rw (← eqb-true (elementBytes op) E x, ← eqb-true (tile .0) t y) (quarter-tile op tile first second h)
 tile-lt E t (Zero mask) h a = absurd (false≢true a)
 
 pub named-tile : (E t w : ℕ) → w < 2 ^ 32 → namesTile E t (describe w) ≡ true → t < E
@@ -143,6 +157,9 @@ named-tile E t w h a = go (describe w) refl a
 module _ (m : Machine) where
   abbrev pub act : ℕ → Act
   act w = action (refusalOf m w) (additionOf m (describe w))
+
+  abbrev pub maskIn : ℕ → Option ℕ
+  maskIn w = wiping (refusalOf m w) (maskOf (describe w))
 
   pub act-fits : (w : ℕ) → Fit (act w)
   act-fits w = action-fits m (refusalOf m w) (describe w)
@@ -161,10 +178,31 @@ module _ (m : Machine) where
         go none h = refl
         go (some r) h = absurd (false≢true h)
 
-  pub act-names : (ws : List ℕ) (w E t : ℕ) (f : ℕ → ℕ → ℤ) → List·Mem w ws → act w ≡ add E t f → Names m ws E t
-  act-names ws w E t f i e =
+    turn-does : next m za w ≡ turn act maskIn (m .bench .vb) za w
+    turn-does = next-is ∙ go (refusalOf m w)
+      where
+        go : (o : Option Refusal) → leftBy (withZa m za) w o .za
+            ≡ wipe (m .bench .vb) (wiping o (maskOf (describe w))) (step (m .bench .vb) (action o (additionOf m (describe w))) za)
+        go (some r) = refl
+        go none = effect-turns (withZa m za) (additionOf m (describe w)) (maskOf (describe w))
+
+  -- every list, as what its words add and clear
+  pub played-turned : Length (m .bench .vb) → (ws : List ℕ) (za : List ℕ) → length za ≡ length (m .za)
+      → played (withZa m za) ws .za ≡ turned act maskIn (m .bench .vb) za ws
+  played-turned l ws za e = ap (λ (n : Machine). n .za) (played-next m ws za) ∙ go ws za e
+    where
+      go : (ws : List ℕ) (za : List ℕ) → length za ≡ length (m .za) → foldl (next m) za ws ≡ turned act maskIn (m .bench .vb) za ws
+      go [] za e = refl
+      go (w ∷ ws) za e =
+          ap (λ (y : List ℕ). foldl (next m) y ws) (turn-does za e w) ∙ go ws _ (turn-length act maskIn act-fits (m .bench .vb) l w za ∙ e)
+
+  pub act-adds : (w E t : ℕ) (f : ℕ → ℕ → ℤ) → act w ≡ add E t f → (accepted m w ≡ true) × (namesTile E t (describe w) ≡ true)
+  act-adds w E t f e =
       let (a, n) = action-names E t (refusalOf m w) (additionOf m (describe w)) f e in
-      record { word = w; listed = i; accepts = a; names = rw (names-added m (describe w)) n }
+      (a, rw (names-added m (describe w)) n)
+
+  pub act-names : (ws : List ℕ) (w E t : ℕ) (f : ℕ → ℕ → ℤ) → List·Mem w ws → act w ≡ add E t f → Names m ws E t
+  act-names ws w E t f i e = let (a, n) = act-adds w E t f e in record { word = w; listed = i; accepts = a; names = n }
 
   pub names-act : (ws : List ℕ) (E t : ℕ) → (n : Names m ws E t) → (f : ℕ → ℕ → ℤ) × (act (n .word) ≡ add E t f)
   names-act ws E t n =

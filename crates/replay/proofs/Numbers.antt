@@ -176,6 +176,13 @@ word-late streaming-off h = omega arith
 word-late (za-off f) h = omega arith
 word-late (done f g) h = absurd (omega arith)
 
+word-most : {d m : ℕ} {o s n a : Bool} → Word d o s n a m → m ≤ 10
+word-most unlisted = omega arith
+word-most feature-off = omega arith
+word-most streaming-off = omega arith
+word-most (za-off f) = omega arith
+word-most (done f g) = omega arith
+
 pub word-7 : {d m : ℕ} {o s n a : Bool} → Word d o s n a m → (m ≡ 7) ↔ (d ≡ 7)
 word-7 unlisted = (λ e. e, λ e. e)
 word-7 feature-off = (λ e. e, λ e. e)
@@ -249,3 +256,6 @@ module _ (b : Bench) (w : ℕ) where
 
   pub word-number-late : 0 < wordNumber → 6 < wordNumber
   word-number-late = word-late listed
+
+  pub word-number-most : wordNumber ≤ 10
+  word-number-most = word-most listed

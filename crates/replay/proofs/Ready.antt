@@ -31,6 +31,13 @@ shaped op h = go (op .wide) (op .«two_way») h
     go false true e = halves32
     go true true e = absurd (false≢true e)
 
+-- and its tile
+pub predicated-tile : (op : Operation) (tile : Tile) (pn pm : Predicate) (zn zm : Vector) → inRange (Predicated op tile pn pm zn zm) ≡ true → tile .0 < elementBytes op
+predicated-tile op tile pn pm zn zm h = ltb-true _ _ (every-all (ranges (Predicated op tile pn pm zn zm)) h .1 .0)
+
+pub quarter-tile : (op : Operation) (tile : Tile) (first second : Source) → inRange (Quarter op tile first second) ≡ true → tile .0 < elementBytes op
+quarter-tile op tile first second h = ltb-true _ _ (every-all (ranges (Quarter op tile first second)) h .1 .0)
+
 governed-good : (v : Vector) (p : Predicate) (unsigned : Bool) → v .0 < 32 → p .0 < 8 → GoodOperand (governedOperand v p unsigned)
 governed-good v p unsigned h k = record { low = h; high = h; predication = omega arith }
 
@@ -63,7 +70,7 @@ module _ (m : Machine) (fits : BenchPasses m) (op : Operation) (tile : Tile) whe
       → Updates (governedOperand zn pn (op .u0)) (governedOperand zm pm (op .u1))
   predicated-ready pn pm zn zm h =
       let r = every-all (ranges (Predicated op tile pn pm zn zm)) h in
-      ready _ _ (r .0) (ltb-true _ _ (r .1 .0)) (governed-good zn pn (op .u0) (omega (arith, ltb-true)) (omega (arith, ltb-true)))
+      ready _ _ (r .0) (predicated-tile op tile pn pm zn zm h) (governed-good zn pn (op .u0) (omega (arith, ltb-true)) (omega (arith, ltb-true)))
       (governed-good zm pm (op .u1) (omega (arith, ltb-true)) (omega (arith, ltb-true)))
 
   pub quarter-ready : (first second : Source) → inRange (Quarter op tile first second) ≡ true
@@ -71,4 +78,4 @@ module _ (m : Machine) (fits : BenchPasses m) (op : Operation) (tile : Tile) whe
   quarter-ready first second h =
       let r = every-all (ranges (Quarter op tile first second)) h in
       let q = quarter-range op tile first second h in
-      ready _ _ (r .0) (ltb-true _ _ (r .1 .0)) (halves-good first (op .u0) (omega arith)) (halves-good second (op .u1) (omega arith))
+      ready _ _ (r .0) (quarter-tile op tile first second h) (halves-good first (op .u0) (omega arith)) (halves-good second (op .u1) (omega arith))

@@ -1,18 +1,26 @@
 -- A list of words part of the way through: what is left of it ends as the whole does. Assumes nothing.
-use mathlib.Core.Path.{_≡_, _∙_, sym, refl, ap, ap₂}
-use mathlib.Core.List.{List, [], _∷_}
+use mathlib.Core.Path.{_≡_, _∙_, sym, refl, ap, ap₂, subst, fun-ext}
+use mathlib.Core.Bool.{Bool, true, false, not, cond, _||_}
+use mathlib.Core.List.{List, [], _∷_, foldl}
 use mathlib.Core.Option.{Option, none, some}
-use Prim.Native.Nat.{ℕ, suc, _+_, _≤_, _<_}
+use Prim.Native.Nat.{ℕ, suc, _+_, _/_, _%_, _^_, _≤_, _<_}
+use native.Mathlib.Nat.{zero-div}
 use native.Mathlib.Omega.{arith}
 use lib.ListN.{length, getD, drop, drop-of-length-le}
 use lib.Seq.{drop-cons}
 use borrow.Author.Tests.{lt-ltb, le-ltb}
 use Rattle.isa.specs.Refusals.{firstFailure, orElse}
+use Rattle.isa.specs.Answers.{describe}
+use Rattle.isa.specs.declared.Instruction.{Instruction}
 use Rattle.isa.specs.declared.Refusal.{Refusal}
-use Rattle.isa.specs.declared.Refusal.the-variants.{ListLength}
+use Rattle.isa.specs.declared.Refusal.the-variants.{ListLength, NotCleared}
+use Rattle.storage.specs.Tile.{masked}
 use Rattle.replay.specs.Machine.{Machine, withZa}
-use Rattle.replay.specs.Execution.{wordRefusal, machineTests, leftBy, wordLeft, after, outcomeNumber, outcomeMissing}
-use Rattle.replay.specs.Lists.{played, mostWords, listTest, runTests, ended, before, stop, endOf, leftAtEnd, ranWords, ran, runOf, runLeft}
+use Rattle.replay.specs.Instructions.{tileNamed}
+use Rattle.replay.specs.Execution.{wordTests, wordRefusal, machineTests, effect, after, outcomeNumber, outcomeMissing}
+use Rattle.replay.specs.Clearing.{clearsRow, tileCleared, clearedTest}
+use Rattle.replay.specs.Lists.{played, mostWords, listTest, runTests, Progress, begun, onward, nextRefusal, ended, before, stop}
+use Rattle.replay.specs.Lists.{endOf, leftAtEnd, ranWords, ran, runOf, runLeft}
 use Rattle.replay.specs.Claims.{runCount, runNumber, runMissing}
 use Rattle.replay.specs.declared.Ended.{Ended}
 use Rattle.isa.proofs.Refusals.{failure-++}
@@ -30,31 +38,55 @@ pub played-none : (m : Machine) → played m [] ≡ m
 unfolding played
 played-none m = refl
 
+-- ---- the next word of a run, by its own tests and by what is cleared
+pub data Next (s : Progress) (w : ℕ) : Option Refusal → Type 0 where
+  by-word : (r : Refusal) → wordRefusal (s .machine) w ≡ some r → Next s w (some r)
+  uncleared : wordRefusal (s .machine) w ≡ none → tileCleared (s .machine .bench .vb) (s .cleared) (tileNamed (describe w)) ≡ false → Next s w (some NotCleared)
+  passes : wordRefusal (s .machine) w ≡ none → tileCleared (s .machine .bench .vb) (s .cleared) (tileNamed (describe w)) ≡ true → Next s w none
+
+pub next-by : (s : Progress) (w : ℕ) → Next s w (nextRefusal s w)
+next-by s w =
+    let b = s .machine .bench in
+    subst (Next s w) (sym (failure-++ (wordTests b w) (clearedTest (b .vb) (s .cleared) (describe w) ∷ [])))
+    (go (wordRefusal (s .machine) w) refl (tileCleared (b .vb) (s .cleared) (tileNamed (describe w))) refl)
+  where
+    go : (o : Option Refusal) → wordRefusal (s .machine) w ≡ o → (c : Bool) → tileCleared (s .machine .bench .vb) (s .cleared) (tileNamed (describe w)) ≡ c
+        → Next s w (orElse o (cond (not c) (some NotCleared) none))
+    go (some r) e c f = by-word r e
+    go none e true f = passes e f
+    go none e false f = uncleared e f
+
+pub next-passed : (s : Progress) (w : ℕ) → nextRefusal s w ≡ none → wordRefusal (s .machine) w ≡ none
+next-passed s w e = go (subst (Next s w) e (next-by s w))
+  where
+    go : Next s w none → wordRefusal (s .machine) w ≡ none
+    go (passes f c) = f
+
 -- ---- the first word of a list
-module _ (m : Machine) (w : ℕ) (ws : List ℕ) where
-  pub before-cons : wordRefusal m w ≡ none → before m (w ∷ ws) ≡ w ∷ before (after m w) ws
+module _ (s : Progress) (w : ℕ) (ws : List ℕ) where
+  pub before-cons : nextRefusal s w ≡ none → before s (w ∷ ws) ≡ w ∷ before (onward s w) ws
   unfolding before
   before-cons f = rw f
 
-  pub before-none : (r : Refusal) → wordRefusal m w ≡ some r → before m (w ∷ ws) ≡ []
+  pub before-none : (r : Refusal) → nextRefusal s w ≡ some r → before s (w ∷ ws) ≡ []
   unfolding before
   before-none r f = rw f
 
-  pub stop-cons : wordRefusal m w ≡ none → stop m (w ∷ ws) ≡ stop (after m w) ws
-  unfolding stop played
-  stop-cons f = rw (before-cons f)
+  pub stop-cons : nextRefusal s w ≡ none → stop s (w ∷ ws) ≡ stop (onward s w) ws
+  unfolding stop
+  stop-cons f = rw f
 
-  pub stop-here : (r : Refusal) → wordRefusal m w ≡ some r → stop m (w ∷ ws) ≡ some r
-  unfolding stop played
-  stop-here r f = rw (before-none r f) f
+  pub stop-here : (r : Refusal) → nextRefusal s w ≡ some r → stop s (w ∷ ws) ≡ some r
+  unfolding stop
+  stop-here r f = rw f
 
-pub before-end : (m : Machine) → before m [] ≡ []
+pub before-end : (s : Progress) → before s [] ≡ []
 unfolding before
-before-end m = refl
+before-end s = refl
 
-pub stop-end : (m : Machine) → stop m [] ≡ none
+pub stop-end : (s : Progress) → stop s [] ≡ none
 unfolding stop
-stop-end m = rw (before-end m)
+stop-end s = refl
 
 -- a word leaves what its ZA says, as it changes nothing else
 pub turn : (m : Machine) (w : ℕ) (za : List ℕ) → za ≡ after m w .za → withZa m za ≡ after m w
@@ -81,60 +113,74 @@ module _ (m₀ : Machine) (ws : List ℕ) where
   pub play-end : (m : Machine) (i : ℕ) → Playing m i → length ws ≤ i → m .za ≡ played m₀ ws .za
   play-end m i g h = ap (λ (n : Machine). n .za) (sym (played-none m) ∙ sym (ap (played m) (drop-of-length-le ws h)) ∙ g .left)
 
-  -- ---- a run
-  pub record Running (m : Machine) (i : ℕ) : Type 0 where
-    pub within : i ≤ length ws
-    pub alike : Alike m₀ m
-    pub counts : i + length (before m (drop i ws)) ≡ length (before m₀ ws)
-    pub stops : stop m (drop i ws) ≡ stop m₀ ws
-    pub left : played m (before m (drop i ws)) ≡ played m₀ (before m₀ ws)
+-- ---- a run: what its byte stands for
+abbrev pub byMask : Machine → ℕ → Progress
+byMask m mask = record { machine = m; cleared = masked mask }
 
-  pub run-start : Running m₀ 0
-  run-start = record { within = omega arith; alike = alike-refl m₀; counts = omega arith; stops = refl; left = refl }
+pub nothing-cleared : (m : Machine) → begun m ≡ byMask m 0
+nothing-cleared m = ap (λ (c : ℕ → Bool). record { machine = m; cleared = c }) (fun-ext (λ r. rw (zero-div (2 ^ (r % 8)))))
+
+-- an executed word leaves what its ZA says, and clears what its mask says
+pub executed-next : (m : Machine) (mask w : ℕ) (za : List ℕ) (mask′ : ℕ) → withZa m za ≡ after m w → ((r : ℕ) → masked mask′ r ≡ masked mask r || clearsRow w r)
+    → byMask (withZa m za) mask′ ≡ onward (byMask m mask) w
+executed-next m mask w za mask′ e c = ap₂ (λ (n : Machine) (c : ℕ → Bool). record { machine = n; cleared = c }) e (fun-ext c)
+
+module _ (s₀ : Progress) (ws : List ℕ) where
+  pub record Running (s : Progress) (i : ℕ) : Type 0 where
+    pub within : i ≤ length ws
+    pub alike : Alike (s₀ .machine) (s .machine)
+    pub counts : i + length (before s (drop i ws)) ≡ length (before s₀ ws)
+    pub stops : stop s (drop i ws) ≡ stop s₀ ws
+    pub left : leftAtEnd s (drop i ws) ≡ leftAtEnd s₀ ws
+
+  pub run-start : (s : Progress) → s₀ ≡ s → Running s 0
+  run-start s e = subst (λ (s : Progress). Running s 0) e (record { within = omega arith; alike = alike-refl (s₀ .machine); counts = omega arith; stops = refl; left = refl })
 
   -- how a run ends: its answer, and its ZA
   abbrev pub RunEnds : ℕ → Option Refusal → List ℕ → Type 0
-  RunEnds n o za = (ended n o ≡ endOf m₀ ws) × (za ≡ leftAtEnd m₀ ws .za)
+  RunEnds n o za = (ended n o ≡ endOf s₀ ws) × (za ≡ leftAtEnd s₀ ws .za)
 
-  module _ (m : Machine) (i : ℕ) (g : Running m i) where
+  module _ (s : Progress) (i : ℕ) (g : Running s i) where
     -- no word is left to execute
-    run-stops : (o : Option Refusal) → before m (drop i ws) ≡ [] → stop m (drop i ws) ≡ o → RunEnds i o (m .za)
-    run-stops o n s =
+    run-stops : (o : Option Refusal) → before s (drop i ws) ≡ [] → stop s (drop i ws) ≡ o → RunEnds i o (s .machine .za)
+    run-stops o n e =
         let c = g .counts in
-        let k : length (before m (drop i ws)) ≡ 0 = ap length n in
-        let e : i ≡ length (before m₀ ws) = omega arith in (
-          ap₂ ended e (sym s ∙ g .stops),
-          ap (λ (n : Machine). n .za) (sym (played-none m) ∙ sym (ap (played m) n) ∙ g .left),
+        let k : length (before s (drop i ws)) ≡ 0 = ap length n in
+        let j : i ≡ length (before s₀ ws) = omega arith in (
+          ap₂ ended j (sym e ∙ g .stops),
+          ap (λ (n : Machine). n .za) (sym (played-none (s .machine)) ∙ sym (ap (played (s .machine)) n) ∙ g .left),
         )
 
-    pub run-end : length ws ≤ i → RunEnds i none (m .za)
-    run-end h = let e = drop-of-length-le ws h in run-stops none (ap (before m) e ∙ before-end m) (ap (stop m) e ∙ stop-end m)
+    pub run-end : length ws ≤ i → RunEnds i none (s .machine .za)
+    run-end h = let e = drop-of-length-le ws h in run-stops none (ap (before s) e ∙ before-end s) (ap (stop s) e ∙ stop-end s)
 
     module _ (h : i < length ws) where
-      pub run-refused : (r : Refusal) (za : List ℕ) → wordRefusal m (getD ws i 0) ≡ some r → za ≡ wordLeft m (getD ws i 0) .za → RunEnds i (some r) za
-      run-refused r za f u =
+      pub run-refused : (r : Refusal) → nextRefusal s (getD ws i 0) ≡ some r → RunEnds i (some r) (s .machine .za)
+      run-refused r f =
           let e = left-cons ws i h in
-          let s = run-stops (some r) (ap (before m) e ∙ before-none m _ _ r f) (ap (stop m) e ∙ stop-here m _ _ r f) in
-          (s .0, u ∙ ap (λ o. leftBy m (getD ws i 0) o .za) f ∙ s .1)
+          run-stops (some r) (ap (before s) e ∙ before-none s _ _ r f) (ap (stop s) e ∙ stop-here s _ _ r f)
 
-      pub run-turn : (m′ : Machine) → wordRefusal m (getD ws i 0) ≡ none → m′ ≡ after m (getD ws i 0) → Running m′ (i + 1)
-      run-turn m′ f e =
+      pub run-turn : (s′ : Progress) → nextRefusal s (getD ws i 0) ≡ none → s′ ≡ onward s (getD ws i 0) → Running s′ (i + 1)
+      run-turn s′ f e =
           let d = left-cons ws i h in
           let c = g .counts in
-          let k : before m (drop i ws) ≡ getD ws i 0 ∷ before (after m (getD ws i 0)) (drop (i + 1) ws) = ap (before m) d ∙ before-cons m _ _ f in
-          let n : length (before m (drop i ws)) ≡ suc (length (before (after m (getD ws i 0)) (drop (i + 1) ws))) = ap length k in
+          let m = s .machine in
+          let k : before s (drop i ws) ≡ getD ws i 0 ∷ before (onward s (getD ws i 0)) (drop (i + 1) ws) = ap (before s) d ∙ before-cons s _ _ f in
+          let n : length (before s (drop i ws)) ≡ suc (length (before (onward s (getD ws i 0)) (drop (i + 1) ws))) = ap length k in
           rw e
           (record {
             within = omega arith;
             alike = alike-trans (g .alike) (after-alike m (getD ws i 0));
             counts = omega arith;
-            stops = sym (stop-cons m _ _ f) ∙ sym (ap (stop m) d) ∙ g .stops;
+            stops = sym (stop-cons s _ _ f) ∙ sym (ap (stop s) d) ∙ g .stops;
             left = sym (played-cons m _ _) ∙ sym (ap (played m) k) ∙ g .left;
           })
 
 -- a word of a run leaves what it does singly
-pub as-single : (m : Machine) (w : ℕ) (za : List ℕ) → firstFailure (machineTests m) ≡ none → za ≡ wordLeft m w .za → withZa m za ≡ after m w
-as-single m w za h e = turn m w za (e ∙ sym (ap (λ (n : Machine). n .za) (after-by m w _ (refused-by-word m w h))))
+pub as-single : (m : Machine) (w : ℕ) (i : Instruction) (za : List ℕ) → firstFailure (machineTests m) ≡ none → wordRefusal m w ≡ none → describe w ≡ some i
+    → za ≡ effect m (some i) .za → withZa m za ≡ after m w
+as-single m w i za h f d e =
+    turn m w za (e ∙ sym (ap (λ (n : Machine). n .za) (after-by m w none (refused-by-word m w h ∙ f) ∙ ap (effect m) d)))
 
 -- ---- a run by its first tests
 module _ (m : Machine) (ws : List ℕ) where
@@ -156,9 +202,9 @@ module _ (m : Machine) (ws : List ℕ) where
   run-za r m′ e = run-numbers r (m′ .za) (e .0) (ap (λ (n : Machine). n .za) (e .1))
 
   pub run-by : (o : Option Refusal) → firstFailure (runTests m ws) ≡ o
-      → RunIs (ended (length (ranWords o m ws)) (orElse o (stop m ws))) (played m (ranWords o m ws))
+      → RunIs (ended (length (ranWords o m ws)) (orElse o (stop (begun m) ws))) (played m (ranWords o m ws))
   unfolding runOf runLeft ran
-  run-by o h = (sym (ap (λ o. ended (length (ranWords o m ws)) (orElse o (stop m ws))) h), sym (ap (λ o. played m (ranWords o m ws)) h))
+  run-by o h = (sym (ap (λ o. ended (length (ranWords o m ws)) (orElse o (stop (begun m) ws))) h), sym (ap (λ o. played m (ranWords o m ws)) h))
 
   pub run-not-begun : (r : Refusal) → firstFailure (runTests m ws) ≡ some r → RunIs (ended 0 (some r)) m
   run-not-begun r h = let e = run-by (some r) h in (e .0, sym (played-none m) ∙ e .1)
@@ -173,8 +219,8 @@ module _ (m : Machine) (ws : List ℕ) where
     pub run-too-long : mostWords < length ws → RunZa (ended 0 (some ListLength)) (m .za)
     run-too-long h = run-za _ _ (run-not-begun ListLength (tests-by none passes ∙ rw (lt-ltb mostWords (length ws) h)))
 
-    pub run-begun : length ws ≤ mostWords → RunIs (endOf m ws) (leftAtEnd m ws)
+    pub run-begun : length ws ≤ mostWords → RunIs (endOf (begun m) ws) (leftAtEnd (begun m) ws)
     run-begun h = run-by none (tests-by none passes ∙ rw (le-ltb mostWords (length ws) h))
 
-    pub run-words-played : (r : Ended) (za : List ℕ) → length ws ≤ mostWords → r ≡ endOf m ws → za ≡ leftAtEnd m ws .za → RunZa r za
+    pub run-words-played : (r : Ended) (za : List ℕ) → length ws ≤ mostWords → r ≡ endOf (begun m) ws → za ≡ leftAtEnd (begun m) ws .za → RunZa r za
     run-words-played r za h e f = let y = run-begun h in run-numbers r za (e ∙ y .0) (f ∙ ap (λ (n : Machine). n .za) (y .1))

@@ -1,20 +1,20 @@
 -- Tests in turn: what the first that fails says of the others. Assumes nothing.
 use mathlib.Core.Path.{_≡_, _∙_, sym, refl, ap}
 use mathlib.Core.Bool.{Bool, true, false, cond}
-use mathlib.Core.List.{List, [], _∷_}
+use mathlib.Core.List.{List, [], _∷_, _++_}
 use mathlib.Core.Option.{Option, none, some}
 use Prim.Native.Nat.{ℕ, _≤_}
 use native.Mathlib.Omega.{arith}
 use lib.ListN.{length}
 use borrow.Author.Tests.{ltb-false, le-ltb, eqb-true, not-false}
-use Rattle.isa.specs.Refusals.{Test, firstFailure, orElse}
+use Rattle.isa.specs.Refusals.{Test, firstFailure}
 use Rattle.isa.specs.Table.{allFlags}
 use Rattle.isa.specs.Answers.{describe, listingTests, decodeTests, decided, decodeOf}
 use Rattle.isa.specs.declared.Refusal.{Refusal}
 use Rattle.isa.specs.declared.Instruction.{Instruction}
 use Rattle.isa.specs.declared.Decoded.{Decoded}
 use Rattle.isa.specs.declared.Decoded.the-variants.{Accepted, Refused as NotDecoded}
-use Rattle.isa.proofs.Refusals.{failure-++}
+use Rattle.isa.proofs.Refusals.{failed-before, passed-before}
 use Rattle.isa.proofs.Sums.{Fair, fair-++, plain-fair, listing-fair}
 use Rattle.isa.proofs.Answers.{decode-refused, decode-passed, decided-accepted, decided-refused}
 use Rattle.replay.specs.Instructions.{modesOf}
@@ -82,27 +82,27 @@ module _ (b : Bench) (w : ℕ) (legal-flags : b .flags ≤ allFlags) where
   pub listing-accepted : (i : Instruction) → decodeOf (b .flags) w ≡ Accepted i → firstFailure (listingTests (b .flags) w) ≡ none
   listing-accepted i p = sym listing ∙ decode-passed (b .flags) w i p .0
 
-  pub word-refused : (r : Refusal) → decodeOf (b .flags) w ≡ NotDecoded r → firstFailure (wordTests b w) ≡ some r
-  word-refused r p =
-      failure-++ (listingTests (b .flags) w) (modeTests b (modesOf (describe w)))
-      ∙ ap (λ o. orElse o (firstFailure (modeTests b (modesOf (describe w))))) (listing-refused r p)
+  -- tests 7 to 10, and any that come later
+  module _ (later : List Test) where
+    pub word-refused : (r : Refusal) → decodeOf (b .flags) w ≡ NotDecoded r → firstFailure (wordTests b w ++ later) ≡ some r
+    word-refused r p = failed-before (listingTests (b .flags) w) (modeTests b (modesOf (describe w)) ++ later) r (listing-refused r p)
 
-  pub word-accepted : (i : Instruction) → decodeOf (b .flags) w ≡ Accepted i → firstFailure (wordTests b w) ≡ firstFailure (modeTests b (modesOf (some i)))
-  word-accepted i p =
-      failure-++ (listingTests (b .flags) w) (modeTests b (modesOf (describe w)))
-      ∙ ap (λ o. orElse o (firstFailure (modeTests b (modesOf (describe w))))) (listing-accepted i p)
-      ∙ ap (λ d. firstFailure (modeTests b (modesOf d))) (decode-passed (b .flags) w i p .1)
+    pub word-accepted : (i : Instruction) → decodeOf (b .flags) w ≡ Accepted i
+        → firstFailure (wordTests b w ++ later) ≡ firstFailure (modeTests b (modesOf (some i)) ++ later)
+    word-accepted i p =
+        passed-before (listingTests (b .flags) w) (modeTests b (modesOf (describe w)) ++ later) (listing-accepted i p)
+        ∙ ap (λ d. firstFailure (modeTests b (modesOf d) ++ later)) (decode-passed (b .flags) w i p .1)
 
--- ---- a word, by what it is admitted as
-module _ (b : Bench) (w : ℕ) where
+-- ---- a word, by what these tests admit it as
+module _ (b : Bench) (w : ℕ) (later : List Test) where
   abbrev admitted : Decoded
-  admitted = decided (firstFailure (wordTests b w)) (describe w)
+  admitted = decided (firstFailure (wordTests b w ++ later)) (describe w)
 
-  pub admit-accepted : (i : Instruction) → Accepted i ≡ admitted → (firstFailure (wordTests b w) ≡ none) × (describe w ≡ some i)
-  admit-accepted i p = decided-accepted (firstFailure (wordTests b w)) (describe w) i (sym p)
+  pub admit-accepted : (i : Instruction) → Accepted i ≡ admitted → (firstFailure (wordTests b w ++ later) ≡ none) × (describe w ≡ some i)
+  admit-accepted i p = decided-accepted (firstFailure (wordTests b w ++ later)) (describe w) i (sym p)
 
-  unlisted-fails : describe w ≡ none → firstFailure (wordTests b w) ≡ none → ⊥
+  unlisted-fails : describe w ≡ none → firstFailure (wordTests b w ++ later) ≡ none → ⊥
   unlisted-fails d p = let q = rw d at p in let z : _≡_ {A = ℕ} 0 1 = cc in omega arith
 
-  pub admit-refused : (r : Refusal) → NotDecoded r ≡ admitted → firstFailure (wordTests b w) ≡ some r
-  admit-refused r p = decided-refused (firstFailure (wordTests b w)) (describe w) r unlisted-fails (sym p)
+  pub admit-refused : (r : Refusal) → NotDecoded r ≡ admitted → firstFailure (wordTests b w ++ later) ≡ some r
+  admit-refused r p = decided-refused (firstFailure (wordTests b w ++ later)) (describe w) r unlisted-fails (sym p)

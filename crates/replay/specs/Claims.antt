@@ -13,12 +13,13 @@ use Rattle.isa.specs.Claims.{HandsBack}
 use Rattle.isa.specs.declared.Refusal.{Refusal}
 use Rattle.storage.specs.Sizes.{legal, zSize, pSize, zaSize}
 use Rattle.storage.specs.Bytes.{at}
-use Rattle.storage.specs.Tile.{masked}
+use Rattle.storage.specs.Tile.{inTile, masked}
 use Rattle.replay.specs.declared.Bench.{Bench}
 use Rattle.replay.specs.Machine.{Machine}
-use Rattle.replay.specs.Instructions.{isOuter, modesOf}
+use Rattle.replay.specs.Instructions.{isOuter, modesOf, namesTile}
 use Rattle.replay.specs.Execution.{refusalOf, effect, after, outcome, outcomeNumber, outcomeMissing}
-use Rattle.replay.specs.Lists.{played, mostWords, runOf, runLeft}
+use Rattle.replay.specs.Clearing.{clearedBy}
+use Rattle.replay.specs.Lists.{played, mostWords, ran, runOf, runLeft}
 
 -- ---- the numbers, and the sums beside them
 abbrev pub executeNumber : Machine → ℕ → ℕ
@@ -111,13 +112,30 @@ module _ (m : Machine) where
     pub beside : (q : ℕ) → q < length (m .za) → masked mask (q / m .bench .vb) ≡ false → at (after m w .za) q ≡ at (m .za) q
 
 -- ---- a run
+-- a row, of ZA's vb rows, of a tile that word w names, which no ZERO among these words cleared
+pub record Uncleared (vb : ℕ) (executed : List ℕ) (w : ℕ) : Type 0 where
+  pub E : ℕ
+  pub tile : ℕ
+  pub row : ℕ
+  pub names : namesTile E tile (describe w) ≡ true
+  pub within : row < vb
+  pub of-tile : inTile E tile row ≡ true
+  pub not-cleared : clearedBy executed row ≡ false
+
 module _ (m : Machine) (ws : List ℕ) where
+  -- word i names a tile that the words before it have not cleared
+  abbrev pub UnclearedAt : ℕ → Type 0
+  UnclearedAt i = Uncleared (m .bench .vb) (take i ws) (getD ws i 0)
+
   -- tests 1 to 6 let it begin: so many words are executed, and the number is that of the word after them
   pub record Ends (count number : ℕ) (left : Machine) : Type 0 where
     pub within : count ≤ length ws
-    -- each of them singly, on what the words before it left, and the word after them
+    -- each of them passes 7 to 10 singly, on what the words before it left, and 14 by what they cleared
     pub executed : (i : ℕ) → i < count → executeNumber (played m (take i ws)) (getD ws i 0) ≡ 0
-    pub refused : count < length ws → executeNumber left (getD ws count 0) ≡ number
+    pub cleared : (i : ℕ) → i < count → UnclearedAt i → ⊥
+    -- the word after them gets the number that it gets singly, and 14 where that is 0 and its tile is not cleared
+    pub refused : count < length ws → (number ≡ 14 → ⊥) → executeNumber left (getD ws count 0) ≡ number
+    pub gives-14 : (number ≡ 14) ↔ (count < length ws) × (executeNumber left (getD ws count 0) ≡ 0) × UnclearedAt count
     -- no word is refused exactly where all are executed
     pub whole : (number ≡ 0) ↔ (count ≡ length ws)
     pub leaves : left ≡ played m (take count ws)
@@ -129,4 +147,6 @@ module _ (m : Machine) (ws : List ℕ) where
     pub hands-back : HandsBack (m .bench .flags) (getD ws (runCount m ws) 0) (runNumber m ws) (runMissing m ws)
     pub not-begun : 0 < runNumber m ws → runNumber m ws ≤ 6 → (runCount m ws ≡ 0) × (runLeft m ws ≡ m)
     pub most : runCount m ws ≤ mostWords
+    -- the words that it executes are so many from the first on
+    pub words : ran m ws ≡ take (runCount m ws) ws
     pub begun : BenchPasses m → length ws ≤ mostWords → Ends (runCount m ws) (runNumber m ws) (runLeft m ws)

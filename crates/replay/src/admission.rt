@@ -1,15 +1,21 @@
 // Which words a bench admits: the tests in the paper's order.
 ghost use mathlib.Core.Path.{_≡_};
+ghost use mathlib.Core.Bool.{true, not};
+ghost use mathlib.Core.List.{[], _∷_, _++_};
 ghost use mathlib.Core.Option.{some};
 ghost use Prim.Native.Nat.{_≤_};
 ghost use Rattle.isa.specs.Refusals.{firstFailure};
 ghost use Rattle.isa.specs.Table.{allFlags};
 ghost use Rattle.isa.specs.Answers.{describe, decided};
+ghost use Rattle.storage.specs.Sizes.{legal};
+ghost use Rattle.storage.specs.Tile.{masked};
 ghost use Rattle.replay.specs.Instructions.{modesOf};
-ghost use Rattle.replay.specs.Execution.{benchTests, modeTests, wordTests, outcome};
+ghost use Rattle.replay.specs.Execution.{benchTests, modeTests, wordTests, Ranged, outcome};
+ghost use Rattle.replay.specs.Lists.{nextTests};
 use crate::Bench;
 use crate::Modes;
 use crate::Outcome;
+use crate::clearing::tile_cleared;
 use isa::Decoded;
 use isa::Instruction;
 use isa::Refusal;
@@ -37,29 +43,41 @@ pub(crate) fn check_bench(bench: Bench, z: usize, p: usize, za: usize) -> Outcom
     Outcome::Done
 }
 
-// Tests 7 to 10 of a word on a bench with legal flags: its instruction, or the refusal.
+// Tests 7 to 10 of a word that is executed singly: its instruction, or the refusal. Every tile counts as cleared.
 pub(crate) fn admit(bench: Bench, word: u32) -> Decoded
-    requires { ⌜ bench .flags ≤ allFlags ⌝ }
+    requires { ⌜ (bench .flags ≤ allFlags) × (legal (bench .vb) ≡ true) ⌝ }
     ensures { λ r. ⌜ r ≡ decided (firstFailure (wordTests bench word)) (describe word) ⌝ }
+{
+    admit_next(bench, 0xFF, word)
+}
+
+// Tests 7 to 10 of a word of a run, then 14, by the mask of the 64-bit tiles that the run has cleared.
+pub(crate) fn admit_next(bench: Bench, cleared: u8, word: u32) -> Decoded
+    requires { ⌜ (bench .flags ≤ allFlags) × (legal (bench .vb) ≡ true) ⌝ }
+    ensures { λ r. ⌜ r ≡ decided (firstFailure (nextTests bench (masked cleared) word)) (describe word) ⌝ }
+    ensures { λ r. ⌜ Ranged r ⌝ }
 {
     match isa::decode(bench.flags, word) {
         Decoded::Refused(r) => Decoded::Refused(r),
-        Decoded::Accepted(i) => match check_modes(bench, modes_of(i)) {
+        Decoded::Accepted(i) => match check_needs(bench, modes_of(i), tile_cleared(cleared, i)) {
             Outcome::Refused(r) => Decoded::Refused(r),
             Outcome::Done => Decoded::Accepted(i),
         },
     }
 }
 
-// Tests 9 and 10.
-fn check_modes(bench: Bench, needs: Modes) -> Outcome
-    ensures { λ r. ⌜ r ≡ outcome (firstFailure (modeTests bench needs)) ⌝ }
+// Tests 9, 10 and 14.
+fn check_needs(bench: Bench, needs: Modes, cleared: bool) -> Outcome
+    ensures { λ r. ⌜ r ≡ outcome (firstFailure (modeTests bench needs ++ (record { fails = not cleared; gives = Refusal.NotCleared } ∷ []))) ⌝ }
 {
     if needs.streaming & !bench.sm {
         return Outcome::Refused(Refusal::StreamingOff);
     }
     if needs.za & !bench.za {
         return Outcome::Refused(Refusal::ZaOff);
+    }
+    if !cleared {
+        return Outcome::Refused(Refusal::NotCleared);
     }
     Outcome::Done
 }

@@ -30,7 +30,7 @@ pub fn execute(bench: Bench, z: &[u8], p: &[u8], za: &mut [u8], word: u32) -> Ou
 }
 
 // A word on a bench that passed 1 to 5: tests 7 to 10, then its instruction.
-pub(crate) fn execute_word(bench: Bench, z: &[u8], p: &[u8], za: &mut [u8], word: u32) -> Outcome
+fn execute_word(bench: Bench, z: &[u8], p: &[u8], za: &mut [u8], word: u32) -> Outcome
     requires { ⌜ firstFailure (machineTests (on bench (now z) (now p) (now za))) ≡ none ⌝ }
     ensures { λ r. ⌜ r ≡ outcome (wordRefusal (on bench (now (z .entry)) (now (p .entry)) (now (za .entry))) word) ⌝ }
     ensures { λ _. ⌜ now (za .exit) ≡ wordLeft (on bench (now (z .entry)) (now (p .entry)) (now (za .entry))) word .za ⌝ }
@@ -45,7 +45,7 @@ pub(crate) fn execute_word(bench: Bench, z: &[u8], p: &[u8], za: &mut [u8], word
 }
 
 // What an admitted instruction does to ZA.
-fn perform(bench: Bench, i: Instruction, z: &[u8], p: &[u8], za: &mut [u8])
+pub(crate) fn perform(bench: Bench, i: Instruction, z: &[u8], p: &[u8], za: &mut [u8])
     requires { ⌜ firstFailure (machineTests (on bench (now z) (now p) (now za))) ≡ none ⌝ }
     requires { ⌜ inRange i ≡ true ⌝ }
     ensures { λ _. ⌜ now (za .exit) ≡ effect (on bench (now (z .entry)) (now (p .entry)) (now (za .entry))) (some i) .za ⌝ }

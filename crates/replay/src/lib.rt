@@ -1,5 +1,6 @@
 // Executes instruction words on a bench: one word, a run of a list, a list word by word.
 mod admission;
+mod clearing;
 mod executor;
 mod lists;
 mod operands;

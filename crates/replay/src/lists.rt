@@ -4,14 +4,17 @@ ghost use mathlib.Core.Option.{none};
 ghost use Rattle.isa.specs.Refusals.{firstFailure};
 ghost use Rattle.replay.specs.Machine.{on};
 ghost use Rattle.replay.specs.Execution.{machineTests, outcomeNumber, outcomeMissing};
-ghost use Rattle.replay.specs.Lists.{played, endOf, leftAtEnd, runOf, runLeft};
+ghost use Rattle.replay.specs.Lists.{played, begun, endOf, leftAtEnd, runOf, runLeft};
 ghost use Rattle.replay.specs.Claims.{runCount, runNumber, runMissing};
 use crate::Bench;
 use crate::Ended;
 use crate::Outcome;
+use crate::admission::admit_next;
 use crate::admission::check_bench;
+use crate::clearing::also_cleared;
 use crate::executor::execute;
-use crate::executor::execute_word;
+use crate::executor::perform;
+use isa::Decoded;
 use isa::Refusal;
 
 // The most words that a run takes.
@@ -42,12 +45,13 @@ pub fn run(bench: Bench, z: &[u8], p: &[u8], za: &mut [u8], words: &[u32]) -> En
     }
 }
 
-// The words of a run on a bench that passed 1 to 5.
+// The words of a run on a bench that passed 1 to 5. Nothing is cleared before the first, whatever ZA holds.
 fn run_words(bench: Bench, z: &[u8], p: &[u8], za: &mut [u8], words: &[u32]) -> Ended
     requires { ⌜ firstFailure (machineTests (on bench (now z) (now p) (now za))) ≡ none ⌝ }
-    ensures { λ r. ⌜ r ≡ endOf (on bench (now (z .entry)) (now (p .entry)) (now (za .entry))) (now (words .entry)) ⌝ }
-    ensures { λ _. ⌜ now (za .exit) ≡ leftAtEnd (on bench (now (z .entry)) (now (p .entry)) (now (za .entry))) (now (words .entry)) .za ⌝ }
+    ensures { λ r. ⌜ r ≡ endOf (begun (on bench (now (z .entry)) (now (p .entry)) (now (za .entry)))) (now (words .entry)) ⌝ }
+    ensures { λ _. ⌜ now (za .exit) ≡ leftAtEnd (begun (on bench (now (z .entry)) (now (p .entry)) (now (za .entry)))) (now (words .entry)) .za ⌝ }
 {
+    let mut cleared = 0u8;
     let mut i = 0;
     let ended = loop {
         if words.len() <= i {
@@ -56,12 +60,17 @@ fn run_words(bench: Bench, z: &[u8], p: &[u8], za: &mut [u8], words: &[u32]) -> 
                 outcome: Outcome::Done,
             };
         }
-        let out = execute_word(bench, z, p, za, words[i]);
-        if let Outcome::Refused(r) = out {
-            break Ended {
-                count: i,
-                outcome: Outcome::Refused(r),
-            };
+        match admit_next(bench, cleared, words[i]) {
+            Decoded::Refused(r) => {
+                break Ended {
+                    count: i,
+                    outcome: Outcome::Refused(r),
+                };
+            }
+            Decoded::Accepted(instruction) => {
+                perform(bench, instruction, z, p, za);
+                cleared = also_cleared(cleared, instruction);
+            }
         }
         i += 1;
     };

@@ -1,11 +1,12 @@
 // Add and subtract exchanged in a word.
 ghost use mathlib.Core.Path.{_≡_};
-ghost use mathlib.Core.Bool.{cond, _&&_};
+ghost use mathlib.Core.Bool.{true, cond, _&&_};
 ghost use mathlib.Core.Option.{some};
 ghost use Prim.Native.Nat.{_≤_};
 ghost use Rattle.isa.specs.Refusals.{firstFailure};
 ghost use Rattle.isa.specs.Table.{allFlags};
 ghost use Rattle.isa.specs.Answers.{describe};
+ghost use Rattle.storage.specs.Sizes.{legal};
 ghost use Rattle.replay.specs.Machine.{on};
 ghost use Rattle.replay.specs.Instructions.{hasOpposite};
 ghost use Rattle.replay.specs.Execution.{wordTests, none?};
@@ -29,7 +30,7 @@ pub fn exchange(bench: Bench, z: &[u8], p: &[u8], za: &[u8], word: u32) -> u32
 
 // The same on a bench that passed 1 to 5.
 fn exchange_word(bench: Bench, word: u32) -> u32
-    requires { ⌜ bench .flags ≤ allFlags ⌝ }
+    requires { ⌜ (bench .flags ≤ allFlags) × (legal (bench .vb) ≡ true) ⌝ }
     ensures { λ r. ⌜ r ≡ cond (none? (firstFailure (wordTests bench word)) && hasOpposite (describe word)) (flipS word) word ⌝ }
 {
     match admit(bench, word) {

@@ -21,7 +21,9 @@ pub const MOST_WORDS: usize = 65_536;
 /// Executes one word, or refuses it by 1 to 5 or 7 to 10.
 pub fn execute(bench: Bench, z: &[u8], p: &[u8], za: &mut [u8], word: u32) -> Result<(), Refused> {
     check(bench, z, p, za)?;
-    step(bench, z, p, za, word)
+    let instruction = admit(bench, word)?;
+    perform(instruction, z, p, za, bench.vb);
+    Ok(())
 }
 
 /// Runs a list up to the first word refused: the number of words executed, and the refusal.
@@ -32,12 +34,30 @@ pub fn run(bench: Bench, z: &[u8], p: &[u8], za: &mut [u8], words: &[u32]) -> (u
     if words.len() > MOST_WORDS {
         return (0, Some(Refused::by(6)));
     }
+    let mut cleared = vec![false; bench.vb];
     for (count, &word) in words.iter().enumerate() {
-        if let Err(refused) = step(bench, z, p, za, word) {
-            return (count, Some(refused));
+        match admit_next(bench, &mut cleared, word) {
+            Ok(instruction) => perform(instruction, z, p, za, bench.vb),
+            Err(refused) => return (count, Some(refused)),
         }
     }
     (words.len(), None)
+}
+
+/// The next word of a run, or why it is refused: by 7 to 10, or by 14 where its tile has a row that no word has cleared.
+/// A ZERO adds its rows to those cleared.
+fn admit_next(bench: Bench, cleared: &mut [bool], word: u32) -> Result<Instruction, Refused> {
+    let instruction = admit(bench, word)?;
+    match instruction {
+        Instruction::Outer(op) => {
+            let mut rows = cleared.iter().skip(op.tile as usize).step_by(op.element_bytes as usize);
+            rows.all(|&row| row).then_some(instruction).ok_or(Refused::by(14))
+        }
+        Instruction::Zero { mask } => {
+            cleared.iter_mut().enumerate().for_each(|(row, cleared)| *cleared |= in_mask(mask, row));
+            Ok(instruction)
+        }
+    }
 }
 
 /// Refusals 1 to 5, which no word has a part in.
@@ -58,8 +78,8 @@ fn check(bench: Bench, z: &[u8], p: &[u8], za: &[u8]) -> Result<(), Refused> {
     }
 }
 
-/// Executes one word on buffers of the right lengths, or refuses it by 7 to 10.
-fn step(bench: Bench, z: &[u8], p: &[u8], za: &mut [u8], word: u32) -> Result<(), Refused> {
+/// A word's instruction, or why it is refused by 7 to 10.
+fn admit(bench: Bench, word: u32) -> Result<Instruction, Refused> {
     let instruction = decode(bench.flags, word)?;
     if matches!(instruction, Instruction::Outer(_)) && !bench.streaming {
         return Err(Refused::by(9));
@@ -67,21 +87,30 @@ fn step(bench: Bench, z: &[u8], p: &[u8], za: &mut [u8], word: u32) -> Result<()
     if !bench.za_on {
         return Err(Refused::by(10));
     }
-    match instruction {
-        Instruction::Outer(op) => match (op.element_bytes, op.products) {
-            (4, 4) => update::<4, 4>(op, z, p, za, bench.vb),
-            (4, _) => update::<4, 2>(op, z, p, za, bench.vb),
-            _ => update::<8, 4>(op, z, p, za, bench.vb),
-        },
-        Instruction::Zero { mask } => clear(mask, za, bench.vb),
-    }
-    Ok(())
+    Ok(instruction)
 }
 
-/// Clears the rows of the 64-bit tiles whose bits are set; every eighth row of ZA belongs to the same one.
+/// What an instruction does on buffers of the right lengths.
+fn perform(instruction: Instruction, z: &[u8], p: &[u8], za: &mut [u8], vb: usize) {
+    match instruction {
+        Instruction::Outer(op) => match (op.element_bytes, op.products) {
+            (4, 4) => update::<4, 4>(op, z, p, za, vb),
+            (4, _) => update::<4, 2>(op, z, p, za, vb),
+            _ => update::<8, 4>(op, z, p, za, vb),
+        },
+        Instruction::Zero { mask } => clear(mask, za, vb),
+    }
+}
+
+/// Whether a row is of a 64-bit tile whose bit is set; every eighth row of ZA belongs to the same one.
+fn in_mask(mask: u8, row: usize) -> bool {
+    mask >> (row % 8) & 1 == 1
+}
+
+/// Clears the rows of a mask.
 fn clear(mask: u8, za: &mut [u8], vb: usize) {
     for (row, line) in za.chunks_exact_mut(vb).enumerate() {
-        if mask >> (row % 8) & 1 == 1 {
+        if in_mask(mask, row) {
             line.fill(0);
         }
     }

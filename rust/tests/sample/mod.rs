@@ -31,6 +31,9 @@ pub const LINES: [(u32, u32); 7] = [
     (0x8000_8008, 0x011E_03D3),
 ];
 
+/// ZERO of all of ZA.
+pub const ZERO_ALL: u32 = 0xC008_00FF;
+
 /// One seed for each case. To repeat a case, set BIRDAGHOL_SEED to the seed that its failure shows; it then comes first.
 pub fn seeds(count: u64) -> Range<u64> {
     let given = env::var("BIRDAGHOL_SEED").ok();
@@ -55,6 +58,22 @@ pub fn listed(random: &mut Random) -> u32 {
 pub fn outer_product(random: &mut Random) -> u32 {
     let lines = if random.chance(3) { &LINES[5..] } else { &LINES[..4] };
     of_lines(random, lines)
+}
+
+/// What a list begins with: mostly a ZERO of all, otherwise up to three ZEROs of random masks, that may clear too little.
+pub fn zeros(random: &mut Random) -> Vec<u32> {
+    if random.chance(3) {
+        let count = random.below(4);
+        (0..count).map(|_| of_lines(random, &LINES[4..5])).collect()
+    } else {
+        vec![ZERO_ALL]
+    }
+}
+
+/// The mask of a ZERO; 0 of any other word.
+pub fn zero_mask(word: u32) -> u8 {
+    let (fixed, free) = LINES[4];
+    if word & !free == fixed { (word & free) as u8 } else { 0 }
 }
 
 /// A word of one of these lines, its fields random.

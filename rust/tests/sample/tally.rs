@@ -11,7 +11,7 @@ use std::collections::BTreeMap;
 pub struct Tally {
     accepted: [usize; LINES.len()],
     lengths: BTreeMap<usize, usize>,
-    refused: [usize; 14],
+    refused: [usize; 15],
     missing: BTreeMap<u32, usize>,
     damaged: BTreeMap<&'static str, [usize; 2]>,
 }

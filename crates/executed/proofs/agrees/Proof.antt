@@ -14,17 +14,17 @@ square vb h = mul-le-mul h h
 mul-rows : tie.Need-mul-rows
 mul-rows c = omega (arith, square _ (c .before .before .before .before .pre))
 
-slice-aggregate-runs-to : tie.Need-slice-aggregate-runs-to
-slice-aggregate-runs-to c = sym (length-take-le _ _ (omega arith))
+slice-aggregate-leaves : tie.Need-slice-aggregate-leaves
+slice-aggregate-leaves c = sym (length-take-le _ _ (omega arith))
 
-slice-aggregate-runs-to-2 : tie.Need-slice-aggregate-runs-to-2
-slice-aggregate-runs-to-2 c = sym (length-take-le _ _ (omega arith))
+slice-aggregate-leaves-2 : tie.Need-slice-aggregate-leaves-2
+slice-aggregate-leaves-2 c = sym (length-take-le _ _ (omega arith))
 
 array-borrow-prefix-za : tie.Need-array-borrow-prefix-za
 array-borrow-prefix-za c = omega (arith, square _ (c .before .before .before .before .before .before .pre))
 
-slice-aggregate-runs-to-3 : tie.Need-slice-aggregate-runs-to-3
-slice-aggregate-runs-to-3 c = sym (length-take-le _ _ (omega (arith, square _ (c .before .before .before .before .before .before .before .pre))))
+slice-aggregate-leaves-3 : tie.Need-slice-aggregate-leaves-3
+slice-aggregate-leaves-3 c = sym (length-take-le _ _ (omega (arith, square _ (c .before .before .before .before .before .before .before .pre))))
 
 pub agrees-spec : {M : Type 1} → statement M
 agrees-spec =
@@ -36,11 +36,11 @@ agrees-spec =
     mul-rows
     (λ c. search needs)
     (λ c. search needs)
-    slice-aggregate-runs-to
+    slice-aggregate-leaves
     (λ c. search needs)
     (λ c. search needs)
-    slice-aggregate-runs-to-2
+    slice-aggregate-leaves-2
     array-borrow-prefix-za
-    slice-aggregate-runs-to-3
+    slice-aggregate-leaves-3
     (λ c κs. search needs)
     (λ c. search needs))

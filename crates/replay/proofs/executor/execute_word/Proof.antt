@@ -1,6 +1,6 @@
 -- `replay::executor::execute_word` meets its contract: by what the word is admitted as. Assumes nothing.
 use mathlib.Core.Path.{_≡_, _∙_, sym, ap, ap₂}
-use mathlib.Core.List.{List}
+use mathlib.Core.List.{List, []}
 use mathlib.Core.Option.{Option, none, some}
 use Prim.Native.Nat.{ℕ}
 use borrow.Author.Needs.{needs}
@@ -28,7 +28,7 @@ admitted : (c : tie.After-i)
     → (wordRefusal (machine (start c)) (start c .args .word) ≡ none) × (describe (start c .args .word) ≡ some (c .i .given .0 .0))
 admitted c =
     let a = start c .args in
-    admit-accepted (a .bench) (a .word) _ (sym (c .i .given .1) ∙ c .before .before .admit .ensures)
+    admit-accepted (a .bench) (a .word) [] _ (sym (c .i .given .1) ∙ c .before .before .admit .ensures)
 
 perform-requires : tie.Need-perform-requires
 perform-requires c κs =
@@ -38,7 +38,7 @@ perform-requires c κs =
 returns : tie.Need-returns
 returns c =
     let s = c .before .before .before .before .before .before .before in
-    let f = admit-refused (s .args .bench) (s .args .word) _ (sym (c .before .r .given .1) ∙ c .before .before .before .admit .ensures) in
+    let f = admit-refused (s .args .bench) (s .args .word) [] _ (sym (c .before .r .given .1) ∙ c .before .before .before .admit .ensures) in
     (sym (ap outcome f), sym (ap (λ o. left s o (describe (s .args .word))) f))
 
 returns-2 : tie.Need-returns-2
@@ -51,7 +51,7 @@ pub execute-word-spec : {M : Type 1} → statement M
 execute-word-spec =
     tie.close
     (tie.spec
-    (λ c κs. let s = c .before .before .before in machine-passes (machine s) (s .pre) .flags)
+    (λ c κs. let s = c .before .before .before in let b = machine-passes (machine s) (s .pre) in (b .flags, b .length-legal))
     (λ c. search needs)
     (λ c. search needs)
     perform-requires

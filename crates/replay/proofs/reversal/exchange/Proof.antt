@@ -36,6 +36,6 @@ exchange-spec =
     (λ c κs. search needs)
     (λ c. search needs)
     (λ c. search needs)
-    (λ c κs. machine-passes (machine (start (c .before .before))) (passed c) .flags)
+    (λ c κs. let b = machine-passes (machine (start (c .before .before))) (passed c) in (b .flags, b .length-legal))
     returns
     returns-2)

@@ -1,5 +1,6 @@
 -- `replay::reversal::exchange_word` meets its contract: by what the word is admitted as. Assumes nothing.
 use mathlib.Core.Path.{_≡_, _∙_, sym}
+use mathlib.Core.List.{[]}
 use mathlib.Core.Option.{none, some}
 use borrow.Author.Needs.{needs}
 use Rattle.isa.specs.Refusals.{firstFailure}
@@ -13,7 +14,7 @@ admitted : (c : tie.After-i)
     → (let a = c .before .before .before .args in (firstFailure (wordTests (a .bench) (a .word)) ≡ none) × (describe (a .word) ≡ some (c .i .given .0 .0)))
 admitted c =
     let a = c .before .before .before .args in
-    admit-accepted (a .bench) (a .word) _ (sym (c .i .given .1) ∙ c .before .before .admit .ensures)
+    admit-accepted (a .bench) (a .word) [] _ (sym (c .i .given .1) ∙ c .before .before .admit .ensures)
 
 returns : tie.Need-returns
 returns c =
@@ -24,7 +25,7 @@ returns c =
 returns-2 : tie.Need-returns-2
 returns-2 c =
     let a = c .before .before .before .args in
-    rw (admit-refused (a .bench) (a .word) _ (sym (c .enum-told .given .1) ∙ c .before .before .admit .ensures))
+    rw (admit-refused (a .bench) (a .word) [] _ (sym (c .enum-told .given .1) ∙ c .before .before .admit .ensures))
 
 returns-3 : tie.Need-returns-3
 returns-3 c =
