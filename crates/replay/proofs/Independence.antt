@@ -21,14 +21,14 @@ use Rattle.storage.specs.Tile.{inTile}
 use Rattle.storage.proofs.Changes.{Rows}
 use Rattle.storage.proofs.Sizes.{Length, legal-length}
 use Rattle.replay.specs.Machine.{Machine, withZa}
-use Rattle.replay.specs.Instructions.{maskOf, namesTile}
+use Rattle.replay.specs.Instructions.{namesTile}
 use Rattle.replay.specs.Execution.{machineTests, refusalOf, after}
 use Rattle.replay.specs.Clearing.{inMask, clearsRow, clearedBy}
-use Rattle.replay.specs.Lists.{played, mostWords, runTests, Progress, begun, onward, nextRefusal, ended, keep, before, stop, ranWords, ran, runOf, runLeft}
-use Rattle.replay.specs.Claims.{Keeps, executeNumber, runCount, runNumber, UnclearedAt, Ends}
+use Rattle.replay.specs.Lists.{played, mostWords, runTests, Progress, begun, nextRefusal, ended, keep, before, stop, ranWords, ran, runOf, runLeft}
+use Rattle.replay.specs.Claims.{Keeps, runCount, runNumber, Ends}
 use Rattle.replay.specs.Independence.{EndsSame, TileEndsSame, Independent}
 use Rattle.replay.proofs.Tests.{machine-passes}
-use Rattle.replay.proofs.Keeping.{keeps-sym, keeps-trans, za-keeps, after-keeps, played-keeps, same-refusal, keeps-alike, same-tests}
+use Rattle.replay.proofs.Keeping.{keeps-sym, keeps-trans, za-keeps, after-keeps, played-keeps, same-refusal}
 use Rattle.replay.proofs.Acts.{Spared, clearing, turned, cleared-rows, spared-rows}
 use Rattle.replay.proofs.Links.{act, act-fits, act-adds, maskIn, played-turned}
 use Rattle.replay.proofs.Runs.{played-none, tests-by, run-bench-refused, run-too-long}
@@ -73,6 +73,10 @@ module _ {m n : Machine} (k : Keeps m n) (ws : List ℕ) where
   same-answer = ap₂ ended (ap length same-words) (ap₂ orElse same-run-tests (same-stop ws k (λ r. false)))
 
 -- ---- what a list has cleared, and what a longer part of it has
+neither : (a b : Bool) → a || b ≡ false → (a ≡ false) × (b ≡ false)
+neither true b e = absurd (true≢false e)
+neither false b e = (refl, e)
+
 module _ (r : ℕ) where
   nothing : clearedBy [] r ≡ false
   unfolding clearedBy
@@ -90,28 +94,14 @@ module _ (r : ℕ) where
       go true c more = refl
       go false c more = more c
 
-  not-cleared : (i n : ℕ) (ws : List ℕ) → i ≤ n → clearedBy (take n ws) r ≡ false → clearedBy (take i ws) r ≡ false
-  not-cleared i n ws l h = go (clearedBy (take i ws) r) refl
-    where
-      go : (b : Bool) → clearedBy (take i ws) r ≡ b → b ≡ false
-      go true e = sym (cleared-more i n ws l e) ∙ h
-      go false e = refl
-
-  -- a word of it clears no other row
+  -- a row that it has not cleared is of none of its words
   not-clearing : (i n : ℕ) (ws : List ℕ) → i < n → i < length ws → clearedBy (take n ws) r ≡ false → clearsRow (getD ws i 0) r ≡ false
   unfolding clearedBy
   not-clearing i n [] l k h = absurd (omega arith)
   not-clearing i zero (w ∷ ws) l k h = absurd (omega arith)
-  not-clearing zero (suc n) (w ∷ ws) l k h = go (clearsRow w r) h
-    where
-      go : (b : Bool) → b || clearedBy (take n ws) r ≡ false → b ≡ false
-      go true c = c
-      go false c = refl
-  not-clearing (suc i) (suc n) (w ∷ ws) l k h = not-clearing i n ws (omega arith) (omega arith) (go (clearsRow w r) h)
-    where
-      go : (b : Bool) → b || clearedBy (take n ws) r ≡ false → clearedBy (take n ws) r ≡ false
-      go true c = absurd (true≢false c)
-      go false c = c
+  not-clearing zero (suc n) (w ∷ ws) l k h = neither (clearsRow w r) (clearedBy (take n ws) r) h .0
+  not-clearing (suc i) (suc n) (w ∷ ws) l k h =
+      not-clearing i n ws (omega arith) (omega arith) (neither (clearsRow w r) (clearedBy (take n ws) r) h .1)
 
 -- ---- words that are accepted, as actions and masks
 module _ (m : Machine) (r : ℕ) where

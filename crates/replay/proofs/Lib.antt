@@ -10,6 +10,7 @@ pub mod Answers
 pub mod Links
 pub mod Demand3
 pub mod Numbers
-pub mod Theorems
 pub mod Masks
+pub mod Endings
+pub mod Theorems
 pub mod Independence

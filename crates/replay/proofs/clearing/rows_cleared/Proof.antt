@@ -1,10 +1,9 @@
 -- `replay::clearing::rows_cleared` meets its contract: the tile's rows are those of one bit, or of two. Assumes nothing.
-use mathlib.Core.Path.{_≡_, _∙_, sym, ap}
+use mathlib.Core.Path.{_∙_, sym, ap}
 use mathlib.Core.Bool.{_&&_}
 use Prim.Native.Nat.{_+_, _-_, _≤_, _<_}
 use native.Mathlib.Omega.{arith}
 use borrow.Author.Needs.{needs}
-use Rattle.isa.specs.Table.{elementBytes}
 use Rattle.storage.proofs.Sizes.{legal-length}
 use Rattle.replay.proofs.Links.{element-width}
 use Rattle.replay.proofs.Masks.{tile-rows, hasBit, tile-bits}
@@ -27,10 +26,10 @@ rows-cleared-spec =
     tie.close
     (tie.spec
     (λ c κs. search needs)
-    (λ c. rows c .0)
-    (λ c. omega (arith, rows c .1 .1))
-    (λ c. omega (arith, rows c .1 .0))
-    (λ c. rows c .1 .0)
-    (λ c. omega (arith, rows c .1 .1))
-    (λ c. rows c .1 .1)
+    (λ c. omega (arith, rows c))
+    (λ c. omega (arith, rows c))
+    (λ c. omega (arith, rows c))
+    (λ c. omega (arith, rows c))
+    (λ c. omega (arith, rows c))
+    (λ c. omega (arith, rows c))
     returns)
