@@ -241,7 +241,7 @@ fn features_executed(z: &[u8], p: &[u8]) {
     );
 }
 
-// As C-16 and C-17 of document 02 amend the example; and lists that do not clear ZA0.S, which has the rows of ZA0.D and ZA4.D.
+// As C-16 and C-17 of document 02 amend the example; and lists on ZA0.S, which has the rows of ZA0.D and ZA4.D.
 fn lists() {
     let z = plus_one();
     let p = [0xFFu8; 32];

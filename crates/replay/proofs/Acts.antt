@@ -212,12 +212,6 @@ module _ {W : Type 0} (act : W → Act) where
         others ws (step vb (act a) za) p (rw (step-length vb l (act a) za) h) (record { free = λ b E t f m e. u .free b E t f (mem-cons-of-mem a m) e })
         ∙ step-stays vb l (act a) (fit a) za p h (λ E t f e. u .free a E t f mem-cons-self e)
 
-    -- a row ends the same whatever the other rows held, mixed widths or not
-    pub rows-apart : (ws : List W) (r : ℕ) (za zb : List ℕ) → Good vb vb za → Agree vb r za zb → Agree vb r (acted vb za ws) (acted vb zb ws)
-    rows-apart [] r za zb k h = h
-    rows-apart (a ∷ ws) r za zb k h =
-        rows-apart ws r (step vb (act a) za) (step vb (act a) zb) (step-good vb l (act a) (fit a) za k) (step-agree vb l (act a) (fit a) r za zb (k .rows) h)
-
 -- ---- any way to go on from word to word
 module _ {W : Type 0} (vb : ℕ) (l : Length vb) (next : List ℕ → W → List ℕ) (act : W → Act) (fit : (w : W) → Fit (act w)) where
   -- that does what the actions do
@@ -286,11 +280,11 @@ module _ (vb : ℕ) where
 
 -- ---- a list of words, each with its action and its mask
 module _ {W : Type 0} (act : W → Act) (mask : W → Option ℕ) where
-  abbrev pub turn : ℕ → List ℕ → W → List ℕ
-  turn vb za w = wipe vb (mask w) (step vb (act w) za)
+  abbrev pub deed : ℕ → List ℕ → W → List ℕ
+  deed vb za w = wipe vb (mask w) (step vb (act w) za)
 
-  abbrev pub turned : ℕ → List ℕ → List W → List ℕ
-  turned vb za ws = foldl (turn vb) za ws
+  abbrev pub deeds : ℕ → List ℕ → List W → List ℕ
+  deeds vb za ws = foldl (deed vb) za ws
 
   -- row r is of a mask of the list
   abbrev pub clearing : List W → ℕ → Bool
@@ -303,36 +297,41 @@ module _ {W : Type 0} (act : W → Act) (mask : W → Option ℕ) where
   Spared r (w ∷ ws) = ((inMask (mask w) r ≡ false) × ((E t : ℕ) (f : ℕ → ℕ → ℤ) → act w ≡ add E t f → inTile E t r ≡ false)) × Spared r ws
 
   module _ (fit : (w : W) → Fit (act w)) (vb : ℕ) (l : Length vb) where
-    pub turn-length : (w : W) (za : List ℕ) → length (turn vb za w) ≡ length za
-    turn-length w za = wipe-length vb (mask w) (step vb (act w) za) ∙ step-length vb l (act w) za
+    pub deed-length : (w : W) (za : List ℕ) → length (deed vb za w) ≡ length za
+    deed-length w za = wipe-length vb (mask w) (step vb (act w) za) ∙ step-length vb l (act w) za
 
-    turn-rows : (w : W) (za : List ℕ) → Rows vb vb za → Rows vb vb (turn vb za w)
-    turn-rows w za k = record { positive = k .positive; whole = turn-length w za ∙ k .whole }
+    deed-rows : (w : W) (za : List ℕ) → Rows vb vb za → Rows vb vb (deed vb za w)
+    deed-rows w za k = record { positive = k .positive; whole = deed-length w za ∙ k .whole }
 
     -- a row that both have alike ends the same
-    alike-rows : (ws : List W) (r : ℕ) (za zb : List ℕ) → Rows vb vb za → Agree vb r za zb → Agree vb r (turned vb za ws) (turned vb zb ws)
+    alike-rows : (ws : List W) (r : ℕ) (za zb : List ℕ) → Rows vb vb za → Agree vb r za zb → Agree vb r (deeds vb za ws) (deeds vb zb ws)
     alike-rows [] r za zb k h = h
     alike-rows (w ∷ ws) r za zb k h =
-        alike-rows ws r _ _ (turn-rows w za k) (wipe-agree vb (mask w) r _ _ (step-agree vb l (act w) (fit w) r za zb k h))
+        alike-rows ws r _ _ (deed-rows w za k) (wipe-agree vb (mask w) r _ _ (step-agree vb l (act w) (fit w) r za zb k h))
 
     -- a row that a word clears ends the same, whatever both held, wherever in the list that word stands
     pub cleared-rows : (ws : List W) (r : ℕ) (za zb : List ℕ) → Rows vb vb za → length za ≡ length zb → clearing ws r ≡ true
-        → Agree vb r (turned vb za ws) (turned vb zb ws)
+        → Agree vb r (deeds vb za ws) (deeds vb zb ws)
     cleared-rows [] r za zb k e c = absurd (false≢true c)
     cleared-rows (w ∷ ws) r za zb k e c =
-        go (inMask (mask w) r) refl c (cleared-rows ws r _ _ (turn-rows w za k) (turn-length w za ∙ e ∙ sym (turn-length w zb)))
+        go (inMask (mask w) r) refl c (cleared-rows ws r _ _ (deed-rows w za k) (deed-length w za ∙ e ∙ sym (deed-length w zb)))
       where
-        go : (b : Bool) → inMask (mask w) r ≡ b → b || clearing ws r ≡ true → (clearing ws r ≡ true → Agree vb r (turned vb za (w ∷ ws)) (turned vb zb (w ∷ ws)))
-            → Agree vb r (turned vb za (w ∷ ws)) (turned vb zb (w ∷ ws))
+        go : (b : Bool) → inMask (mask w) r ≡ b → b || clearing ws r ≡ true → (clearing ws r ≡ true → Agree vb r (deeds vb za (w ∷ ws)) (deeds vb zb (w ∷ ws)))
+            → Agree vb r (deeds vb za (w ∷ ws)) (deeds vb zb (w ∷ ws))
         go true m h later =
             let d = step-length vb l (act w) za ∙ e ∙ sym (step-length vb l (act w) zb) in
-            alike-rows ws r _ _ (turn-rows w za k) (wipe-same vb (mask w) r _ _ d m)
+            alike-rows ws r _ _ (deed-rows w za k) (wipe-same vb (mask w) r _ _ d m)
         go false m h later = later h
 
     -- a row that is spared stays
-    pub spared-rows : (ws : List W) (za : List ℕ) (p : ℕ) → p < length za → Spared (p / vb) ws → at (turned vb za ws) p ≡ at za p
+    pub spared-rows : (ws : List W) (za : List ℕ) (p : ℕ) → p < length za → Spared (p / vb) ws → at (deeds vb za ws) p ≡ at za p
     spared-rows [] za p h s = refl
     spared-rows (w ∷ ws) za p h s =
-        spared-rows ws (turn vb za w) p (rw (turn-length w za) h) (s .1)
+        spared-rows ws (deed vb za w) p (rw (deed-length w za) h) (s .1)
         ∙ wipe-stays vb (mask w) (step vb (act w) za) p (rw (step-length vb l (act w) za) h) (s .0 .0)
         ∙ step-stays vb l (act w) (fit w) za p h (s .0 .1)
+
+-- ---- without masks: a row ends the same whatever the other rows held, mixed widths or not
+module _ {W : Type 0} (act : W → Act) (fit : (w : W) → Fit (act w)) (vb : ℕ) (l : Length vb) where
+  pub rows-apart : (ws : List W) (r : ℕ) (za zb : List ℕ) → Good vb vb za → Agree vb r za zb → Agree vb r (acted act vb za ws) (acted act vb zb ws)
+  rows-apart ws r za zb k h = alike-rows act (λ w. no-mask) fit vb l ws r za zb (k .rows) h

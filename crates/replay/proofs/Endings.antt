@@ -25,7 +25,7 @@ use Rattle.replay.specs.Machine.{Machine}
 use Rattle.replay.specs.Instructions.{TileName, tileNamed, isTile}
 use Rattle.replay.specs.Execution.{machineTests, wordTests, wordRefusal, outcomeNumber, outcomeMissing}
 use Rattle.replay.specs.Clearing.{clearsRow, clearedBy, tileCleared, clearedTest}
-use Rattle.replay.specs.Lists.{played, Progress, begun, onward, nextTests, nextRefusal, ended, keep, before, stop}
+use Rattle.replay.specs.Lists.{played, Progress, atStart, onward, nextTests, nextRefusal, ended, keep, before, stop}
 use Rattle.replay.specs.Claims.{executeNumber, BenchPasses, Uncleared, UnclearedAt, Ends}
 use Rattle.replay.proofs.Tests.{word-fair}
 use Rattle.replay.proofs.Execution.{refused-by-word}
@@ -160,26 +160,26 @@ next-fair b cleared w =
     let last = clearedTest (b .vb) cleared (describe w) ∷ [] in
     fair-++ (b .flags) w (wordTests b w) last (word-fair b w) (plain-fair (b .flags) w last refl)
 
-pub leaves-handed : {m : Machine} {ws : List ℕ} {n : ℕ} {o : Option Refusal} → Leaves (begun m) ws n o → HandedAt m ws (ended n o)
+pub leaves-handed : {m : Machine} {ws : List ℕ} {n : ℕ} {o : Option Refusal} → Leaves (atStart m) ws n o → HandedAt m ws (ended n o)
 leaves-handed at-end = without-sum (λ e. omega arith)
 leaves-handed {m} {ws} (at-word n r l e) =
-    let s = reached (begun m) (take n ws) in
+    let s = reached (atStart m) (take n ws) in
     let b = s .machine .bench in
     let w = getD ws n 0 in
     let h : Handed (b .flags) w (some r) = subst (Handed (b .flags) w) e (handed (b .flags) w (nextTests b (s .cleared) w) (next-fair b (s .cleared) w)) in
-    subst (λ (b : Bench). Handed (b .flags) w (some r)) (ap (λ (n : Machine). n .bench) (reached-machine (take n ws) (begun m)) ∙ played-keeps (take n ws) m .bench) h
+    subst (λ (b : Bench). Handed (b .flags) w (some r)) (ap (λ (n : Machine). n .bench) (reached-machine (take n ws) (atStart m)) ∙ played-keeps (take n ws) m .bench) h
 
 -- ---- a run on a bench that passes 1 to 5
 module _ (m : Machine) (ws : List ℕ) (h : BenchPasses m) where
   -- word n, on what the words before it left and cleared: its own number, and what its tile asks
   abbrev Reached : ℕ → Progress
-  Reached n = reached (begun m) (take n ws)
+  Reached n = reached (atStart m) (take n ws)
 
   singly : (n : ℕ) → executeNumber (played m (take n ws)) (getD ws n 0) ≡ numberOf (wordRefusal (Reached n .machine) (getD ws n 0))
   singly n =
-      ap (λ (k : Machine). executeNumber k (getD ws n 0)) (sym (reached-machine (take n ws) (begun m)))
+      ap (λ (k : Machine). executeNumber k (getD ws n 0)) (sym (reached-machine (take n ws) (atStart m)))
       ∙ ap numberOf (refused-by-word (Reached n .machine) (getD ws n 0)
-      (ap (λ (k : Machine). firstFailure (machineTests k)) (reached-machine (take n ws) (begun m))
+      (ap (λ (k : Machine). firstFailure (machineTests k)) (reached-machine (take n ws) (atStart m))
       ∙ same-tests (played-alike (take n ws) m) ∙ bench-passed (m .bench) (length (m .z)) (length (m .p)) (length (m .za)) h))
 
   -- its test 14, in terms of the words before it
@@ -187,11 +187,11 @@ module _ (m : Machine) (ws : List ℕ) (h : BenchPasses m) where
       → tileCleared (m .bench .vb) (clearedBy (take n ws)) (tileNamed (describe (getD ws n 0))) ≡ c
   tile-asked n c e =
       ap₂ (λ (vb : ℕ) (rows : ℕ → Bool). tileCleared vb rows (tileNamed (describe (getD ws n 0))))
-      (sym (ap (λ (k : Machine). k .bench .vb) (reached-machine (take n ws) (begun m)) ∙ played-alike (take n ws) m .vb))
-      (sym (fun-ext (λ r. reached-cleared (take n ws) (begun m) r)))
+      (sym (ap (λ (k : Machine). k .bench .vb) (reached-machine (take n ws) (atStart m)) ∙ played-alike (take n ws) m .vb))
+      (sym (fun-ext (λ r. reached-cleared (take n ws) (atStart m) r)))
       ∙ e
 
-  next-at : {o : Option Refusal} (n : ℕ) → refusalAt (begun m) ws n ≡ o → Next (Reached n) (getD ws n 0) o
+  next-at : {o : Option Refusal} (n : ℕ) → refusalAt (atStart m) ws n ≡ o → Next (Reached n) (getD ws n 0) o
   next-at n e = subst (Next (Reached n) (getD ws n 0)) e (next-by (Reached n) (getD ws n 0))
 
   passes-both : (n : ℕ) → Next (Reached n) (getD ws n 0) none → (executeNumber (played m (take n ws)) (getD ws n 0) ≡ 0) × (UnclearedAt m ws n → ⊥)
@@ -214,27 +214,27 @@ module _ (m : Machine) (ws : List ℕ) (h : BenchPasses m) where
     λ d. refl,
   )
 
-  leaves-singly : {n : ℕ} {o : Option Refusal} → Leaves (begun m) ws n o → n < length ws → (numberOf o ≡ 14 → ⊥)
+  leaves-singly : {n : ℕ} {o : Option Refusal} → Leaves (atStart m) ws n o → n < length ws → (numberOf o ≡ 14 → ⊥)
       → executeNumber (played m (take n ws)) (getD ws n 0) ≡ numberOf o
   leaves-singly at-end l d = absurd (omega arith)
   leaves-singly (at-word n r l e) k d = stops-by n (next-at n e) d
 
-  leaves-14 : {n : ℕ} {o : Option Refusal} → Leaves (begun m) ws n o
+  leaves-14 : {n : ℕ} {o : Option Refusal} → Leaves (atStart m) ws n o
       → (numberOf o ≡ 14) ↔ (n < length ws) × (executeNumber (played m (take n ws)) (getD ws n 0) ≡ 0) × UnclearedAt m ws n
   leaves-14 at-end = (λ d. absurd (omega arith), λ c. absurd (omega arith))
   leaves-14 (at-word n r l e) =
       let i = stops-14 n (next-at n e) in
       (λ d. (l, i .0 d .0, i .0 d .1), λ c. i .1 (c .1, c .2))
 
-  pub run-ends : Ends m ws (length (before (begun m) ws)) (numberOf (stop (begun m) ws)) (played m (before (begun m) ws))
+  pub run-ends : Ends m ws (length (before (atStart m) ws)) (numberOf (stop (atStart m) ws)) (played m (before (atStart m) ws))
   run-ends =
-      let l = leaves ws (begun m) in
-      let n = length (before (begun m) ws) in
-      let left : played m (before (begun m) ws) ≡ played m (take n ws) = ap (played m) (taken ws (begun m)) in
+      let l = leaves ws (atStart m) in
+      let n = length (before (atStart m) ws) in
+      let left : played m (before (atStart m) ws) ≡ played m (take n ws) = ap (played m) (taken ws (atStart m)) in
       record {
         within = leaves-within l;
-        executed = λ i k. passes-both i (next-at i (passed ws (begun m) i k)) .0;
-        cleared = λ i k. passes-both i (next-at i (passed ws (begun m) i k)) .1;
+        executed = λ i k. passes-both i (next-at i (passed ws (atStart m) i k)) .0;
+        cleared = λ i k. passes-both i (next-at i (passed ws (atStart m) i k)) .1;
         refused = rw left (leaves-singly l);
         gives-14 = rw left (leaves-14 l);
         whole = leaves-whole l;

@@ -24,13 +24,13 @@ use Rattle.replay.specs.Machine.{Machine, withZa}
 use Rattle.replay.specs.Instructions.{namesTile}
 use Rattle.replay.specs.Execution.{machineTests, refusalOf, after}
 use Rattle.replay.specs.Clearing.{inMask, clearsRow, clearedBy}
-use Rattle.replay.specs.Lists.{played, mostWords, runTests, Progress, begun, nextRefusal, ended, keep, before, stop, ranWords, ran, runOf, runLeft}
+use Rattle.replay.specs.Lists.{played, mostWords, runTests, Progress, atStart, nextRefusal, ended, keep, before, stop, ranWords, ran, runOf, runLeft}
 use Rattle.replay.specs.Claims.{Keeps, runCount, runNumber, Ends}
-use Rattle.replay.specs.Independence.{EndsSame, TileEndsSame, Independent}
+use Rattle.replay.specs.Independence.{OtherZa, EndsSame, TileEndsSame, Independent}
 use Rattle.replay.proofs.Tests.{machine-passes}
 use Rattle.replay.proofs.Keeping.{keeps-sym, keeps-trans, za-keeps, after-keeps, played-keeps, same-refusal}
-use Rattle.replay.proofs.Acts.{Spared, clearing, turned, cleared-rows, spared-rows}
-use Rattle.replay.proofs.Links.{act, act-fits, act-adds, maskIn, played-turned}
+use Rattle.replay.proofs.Acts.{Spared, clearing, deeds, cleared-rows, spared-rows}
+use Rattle.replay.proofs.Links.{act, act-fits, act-adds, maskIn, played-deeds}
 use Rattle.replay.proofs.Runs.{played-none, tests-by, run-bench-refused, run-too-long}
 use Rattle.replay.proofs.Numbers.{numberOf}
 use Rattle.replay.proofs.Theorems.{run-keeps, runs}
@@ -68,9 +68,9 @@ module _ {m n : Machine} (k : Keeps m n) (ws : List ℕ) where
       go none = same-before ws k (λ r. false)
       go (some r) = refl
 
-  same-answer : runOf n ws ≡ runOf m ws
+  same-run : runOf n ws ≡ runOf m ws
   unfolding runOf
-  same-answer = ap₂ ended (ap length same-words) (ap₂ orElse same-run-tests (same-stop ws k (λ r. false)))
+  same-run = ap₂ ended (ap length same-words) (ap₂ orElse same-run-tests (same-stop ws k (λ r. false)))
 
 -- ---- what a list has cleared, and what a longer part of it has
 neither : (a b : Bool) → a || b ≡ false → (a ≡ false) × (b ≡ false)
@@ -176,26 +176,26 @@ module _ (m : Machine) (ws : List ℕ) where
         sym (same-refusal (played-keeps (take i ws) m) (getD ws i 0)) ∙ number-none (refusalOf (played m (take i ws)) (getD ws i 0)) (ends .executed i h)
 
     -- what it leaves of a ZA, by what its words add and clear
-    left-turned : (za : List ℕ) → length za ≡ length (m .za) → runLeft (withZa m za) ws .za ≡ turned (act m) (maskIn m) vb za executed
+    left-deeds : (za : List ℕ) → length za ≡ length (m .za) → runLeft (withZa m za) ws .za ≡ deeds (act m) (maskIn m) vb za executed
     unfolding runLeft
-    left-turned za e =
-        ap (λ (es : List ℕ). played (withZa m za) es .za) (same-words (za-keeps m za e) ws ∙ runs m ws .words) ∙ played-turned m l executed za e
+    left-deeds za e =
+        ap (λ (es : List ℕ). played (withZa m za) es .za) (same-words (za-keeps m za e) ws ∙ runs m ws .words) ∙ played-deeds m l executed za e
 
     row-lt : (q : ℕ) → q < length (m .za) → q / vb < vb
     row-lt q h = div-lt-iff-lt-mul {k = vb} {x = q} {y = vb} (omega (arith, l .least)) .1 (rw size at h)
 
     cleared-same : (zb : List ℕ) → length zb ≡ length (m .za) → (q : ℕ) → q < length (m .za) → clearedBy executed (q / vb) ≡ true → EndsSame m zb ws q
     cleared-same zb e q h c =
-        let u = left-turned zb e in
-        let v = left-turned (m .za) refl in
+        let u = left-deeds zb e in
+        let v = left-deeds (m .za) refl in
         let k : q < length (runLeft (withZa m zb) ws .za) = rw (run-keeps (withZa m zb) ws .za-length, e) h in
         let rows : Rows vb vb zb = record { positive = omega (arith, l .least); whole = e ∙ size } in
         let s = cleared-rows (act m) (maskIn m) (act-fits m) vb l executed (q / vb) zb (m .za) rows e (accepted-clearing m (q / vb) (runCount m ws) ws accepted-words ∙ c) in
         ap (λ (za : List ℕ). at za q) u ∙ s .agree q (subst (λ (za : List ℕ). q < length za) u k) refl ∙ sym (ap (λ (za : List ℕ). at za q) v)
 
     -- no executed word names a tile with a row that is not cleared
-    tile-rows : (i E t r : ℕ) → i < runCount m ws → namesTile E t (describe (getD ws i 0)) ≡ true → r < vb → inTile E t r ≡ true → clearedBy executed r ≡ true
-    tile-rows i E t r h n k g = go (clearedBy (take i ws) r) refl
+    named-rows : (i E t r : ℕ) → i < runCount m ws → namesTile E t (describe (getD ws i 0)) ≡ true → r < vb → inTile E t r ≡ true → clearedBy executed r ≡ true
+    named-rows i E t r h n k g = go (clearedBy (take i ws) r) refl
       where
         go : (b : Bool) → clearedBy (take i ws) r ≡ b → clearedBy executed r ≡ true
         go true e = cleared-more r i (runCount m ws) ws (omega arith) e
@@ -203,16 +203,16 @@ module _ (m : Machine) (ws : List ℕ) where
 
     stays : (q : ℕ) → q < length (m .za) → clearedBy executed (q / vb) ≡ false → at (runLeft m ws .za) q ≡ at (m .za) q
     stays q h c =
-        ap (λ (za : List ℕ). at za q) (left-turned (m .za) refl)
+        ap (λ (za : List ℕ). at za q) (left-deeds (m .za) refl)
         ∙ spared-rows (act m) (maskIn m) (act-fits m) vb l executed (m .za) q h
         (spared m (q / vb) (runCount m ws) ws (λ i a k. (not-clearing (q / vb) i (runCount m ws) ws a k c, λ E t n. go i E t a n (inTile E t (q / vb)) refl)))
       where
         go : (i E t : ℕ) → i < runCount m ws → namesTile E t (describe (getD ws i 0)) ≡ true → (b : Bool) → inTile E t (q / vb) ≡ b → b ≡ false
-        go i E t a n true e = sym (tile-rows i E t (q / vb) a n (row-lt q h) e) ∙ c
+        go i E t a n true e = sym (named-rows i E t (q / vb) a n (row-lt q h) e) ∙ c
         go i E t a n false e = refl
 
 -- the same count and refusal, and the same bytes in every row that an executed ZERO cleared
-pub independent : (m : Machine) (zb : List ℕ) (ws : List ℕ) → length zb ≡ length (m .za) → Independent m zb ws
+pub independent : (m : Machine) (zb : List ℕ) (ws : List ℕ) → OtherZa m zb → Independent m zb ws
 independent m zb ws e = go (started m ws)
   where
     k : Keeps m (withZa m zb)
@@ -223,7 +223,7 @@ independent m zb ws e = go (started m ws)
         let c = counts-none m ws unbegun in
         let rows : (r : ℕ) → clearedBy (ran m ws) r ≡ false = λ r. ap (λ (es : List ℕ). clearedBy es r) unbegun ∙ nothing r in
         record {
-          answer = same-answer k ws;
+          answer = same-run k ws;
           words = same-words k ws;
           cleared-rows = λ q h i. absurd (false≢true (sym (rows (q / m .bench .vb)) ∙ i));
           other-rows = λ q h i. ap (λ (n : Machine). at (n .za) q) (left-unmoved m ws unbegun);
@@ -233,9 +233,9 @@ independent m zb ws e = go (started m ws)
     go (yes l size ends) =
         let words : (r : ℕ) → clearedBy (ran m ws) r ≡ clearedBy (take (runCount m ws) ws) r = λ r. ap (λ (es : List ℕ). clearedBy es r) (runs m ws .words) in
         let tiles : (i E t : ℕ) → i < runCount m ws → namesTile E t (describe (getD ws i 0)) ≡ true → TileEndsSame m zb ws E t =
-        λ i E t h n q g r. cleared-same m ws l size ends zb e q g (tile-rows m ws l size ends i E t (q / m .bench .vb) h n (row-lt m ws l size ends q g) r) in
+        λ i E t h n q g r. cleared-same m ws l size ends zb e q g (named-rows m ws l size ends i E t (q / m .bench .vb) h n (row-lt m ws l size ends q g) r) in
         record {
-          answer = same-answer k ws;
+          answer = same-run k ws;
           words = same-words k ws;
           cleared-rows = λ q h i. cleared-same m ws l size ends zb e q h (sym (words (q / m .bench .vb)) ∙ i);
           other-rows = λ q h i. stays m ws l size ends q h (sym (words (q / m .bench .vb)) ∙ i);

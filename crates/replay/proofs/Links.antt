@@ -32,7 +32,7 @@ use Rattle.replay.proofs.Ready.{predicated-tile, quarter-tile}
 use Rattle.replay.proofs.Keeping.{za-keeps, after-keeps, kept-is, same-refusal}
 use Rattle.storage.proofs.Sizes.{Length}
 use Rattle.replay.proofs.Acts.{Act, idle, add, step, undo, Width, narrow, wide, Fit, shares, gives, given, Clean}
-use Rattle.replay.proofs.Acts.{wipe, turn, turned, turn-length}
+use Rattle.replay.proofs.Acts.{wipe, deed, deeds, deed-length}
 use Rattle.replay.proofs.Twins.{Twin, twin}
 
 -- ---- lists on one bench, Z and P, as they go from ZA to ZA
@@ -94,11 +94,11 @@ module _ (m : Machine) where
   action-does none d h = let (a, e, c) = outer-adds d (h refl) in rw (e, c)
 
   -- every instruction, by what it adds and what it clears
-  effect-turns : (x : Option Addition) (q : Option ℕ) → cleared (added m x) q .za ≡ wipe (m .bench .vb) q (step (m .bench .vb) (action none x) (m .za))
-  effect-turns none none = refl
-  effect-turns none (some mask) = refl
-  effect-turns (some a) none = refl
-  effect-turns (some a) (some mask) = refl
+  effect-deed : (x : Option Addition) (q : Option ℕ) → cleared (added m x) q .za ≡ wipe (m .bench .vb) q (step (m .bench .vb) (action none x) (m .za))
+  effect-deed none none = refl
+  effect-deed none (some mask) = refl
+  effect-deed (some a) none = refl
+  effect-deed (some a) (some mask) = refl
 
   -- the other way
   abbrev byProducts : OuterProduct → Act
@@ -178,23 +178,23 @@ module _ (m : Machine) where
         go none h = refl
         go (some r) h = absurd (false≢true h)
 
-    turn-does : next m za w ≡ turn act maskIn (m .bench .vb) za w
-    turn-does = next-is ∙ go (refusalOf m w)
+    deed-does : next m za w ≡ deed act maskIn (m .bench .vb) za w
+    deed-does = next-is ∙ go (refusalOf m w)
       where
         go : (o : Option Refusal) → leftBy (withZa m za) w o .za
             ≡ wipe (m .bench .vb) (wiping o (maskOf (describe w))) (step (m .bench .vb) (action o (additionOf m (describe w))) za)
         go (some r) = refl
-        go none = effect-turns (withZa m za) (additionOf m (describe w)) (maskOf (describe w))
+        go none = effect-deed (withZa m za) (additionOf m (describe w)) (maskOf (describe w))
 
   -- every list, as what its words add and clear
-  pub played-turned : Length (m .bench .vb) → (ws : List ℕ) (za : List ℕ) → length za ≡ length (m .za)
-      → played (withZa m za) ws .za ≡ turned act maskIn (m .bench .vb) za ws
-  played-turned l ws za e = ap (λ (n : Machine). n .za) (played-next m ws za) ∙ go ws za e
+  pub played-deeds : Length (m .bench .vb) → (ws : List ℕ) (za : List ℕ) → length za ≡ length (m .za)
+      → played (withZa m za) ws .za ≡ deeds act maskIn (m .bench .vb) za ws
+  played-deeds l ws za e = ap (λ (n : Machine). n .za) (played-next m ws za) ∙ go ws za e
     where
-      go : (ws : List ℕ) (za : List ℕ) → length za ≡ length (m .za) → foldl (next m) za ws ≡ turned act maskIn (m .bench .vb) za ws
+      go : (ws : List ℕ) (za : List ℕ) → length za ≡ length (m .za) → foldl (next m) za ws ≡ deeds act maskIn (m .bench .vb) za ws
       go [] za e = refl
       go (w ∷ ws) za e =
-          ap (λ (y : List ℕ). foldl (next m) y ws) (turn-does za e w) ∙ go ws _ (turn-length act maskIn act-fits (m .bench .vb) l w za ∙ e)
+          ap (λ (y : List ℕ). foldl (next m) y ws) (deed-does za e w) ∙ go ws _ (deed-length act maskIn act-fits (m .bench .vb) l w za ∙ e)
 
   pub act-adds : (w E t : ℕ) (f : ℕ → ℕ → ℤ) → act w ≡ add E t f → (accepted m w ≡ true) × (namesTile E t (describe w) ≡ true)
   act-adds w E t f e =

@@ -19,7 +19,7 @@ use Rattle.replay.specs.Machine.{Machine, withZa}
 use Rattle.replay.specs.Instructions.{tileNamed}
 use Rattle.replay.specs.Execution.{wordTests, wordRefusal, machineTests, effect, after, outcomeNumber, outcomeMissing}
 use Rattle.replay.specs.Clearing.{clearsRow, tileCleared, clearedTest}
-use Rattle.replay.specs.Lists.{played, mostWords, listTest, runTests, Progress, begun, onward, nextRefusal, ended, before, stop}
+use Rattle.replay.specs.Lists.{played, mostWords, listTest, runTests, Progress, atStart, onward, nextRefusal, ended, before, stop}
 use Rattle.replay.specs.Lists.{endOf, leftAtEnd, ranWords, ran, runOf, runLeft}
 use Rattle.replay.specs.Claims.{runCount, runNumber, runMissing}
 use Rattle.replay.specs.declared.Ended.{Ended}
@@ -117,7 +117,7 @@ module _ (m₀ : Machine) (ws : List ℕ) where
 abbrev pub byMask : Machine → ℕ → Progress
 byMask m mask = record { machine = m; cleared = masked mask }
 
-pub nothing-cleared : (m : Machine) → begun m ≡ byMask m 0
+pub nothing-cleared : (m : Machine) → atStart m ≡ byMask m 0
 nothing-cleared m = ap (λ (c : ℕ → Bool). record { machine = m; cleared = c }) (fun-ext (λ r. rw (zero-div (2 ^ (r % 8)))))
 
 -- an executed word leaves what its ZA says, and clears what its mask says
@@ -202,9 +202,9 @@ module _ (m : Machine) (ws : List ℕ) where
   run-za r m′ e = run-numbers r (m′ .za) (e .0) (ap (λ (n : Machine). n .za) (e .1))
 
   pub run-by : (o : Option Refusal) → firstFailure (runTests m ws) ≡ o
-      → RunIs (ended (length (ranWords o m ws)) (orElse o (stop (begun m) ws))) (played m (ranWords o m ws))
+      → RunIs (ended (length (ranWords o m ws)) (orElse o (stop (atStart m) ws))) (played m (ranWords o m ws))
   unfolding runOf runLeft ran
-  run-by o h = (sym (ap (λ o. ended (length (ranWords o m ws)) (orElse o (stop (begun m) ws))) h), sym (ap (λ o. played m (ranWords o m ws)) h))
+  run-by o h = (sym (ap (λ o. ended (length (ranWords o m ws)) (orElse o (stop (atStart m) ws))) h), sym (ap (λ o. played m (ranWords o m ws)) h))
 
   pub run-not-begun : (r : Refusal) → firstFailure (runTests m ws) ≡ some r → RunIs (ended 0 (some r)) m
   run-not-begun r h = let e = run-by (some r) h in (e .0, sym (played-none m) ∙ e .1)
@@ -219,8 +219,8 @@ module _ (m : Machine) (ws : List ℕ) where
     pub run-too-long : mostWords < length ws → RunZa (ended 0 (some ListLength)) (m .za)
     run-too-long h = run-za _ _ (run-not-begun ListLength (tests-by none passes ∙ rw (lt-ltb mostWords (length ws) h)))
 
-    pub run-begun : length ws ≤ mostWords → RunIs (endOf (begun m) ws) (leftAtEnd (begun m) ws)
+    pub run-begun : length ws ≤ mostWords → RunIs (endOf (atStart m) ws) (leftAtEnd (atStart m) ws)
     run-begun h = run-by none (tests-by none passes ∙ rw (le-ltb mostWords (length ws) h))
 
-    pub run-words-played : (r : Ended) (za : List ℕ) → length ws ≤ mostWords → r ≡ endOf (begun m) ws → za ≡ leftAtEnd (begun m) ws .za → RunZa r za
+    pub run-words-played : (r : Ended) (za : List ℕ) → length ws ≤ mostWords → r ≡ endOf (atStart m) ws → za ≡ leftAtEnd (atStart m) ws .za → RunZa r za
     run-words-played r za h e f = let y = run-begun h in run-numbers r za (e ∙ y .0) (f ∙ ap (λ (n : Machine). n .za) (y .1))

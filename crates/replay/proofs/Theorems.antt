@@ -29,7 +29,7 @@ use Rattle.replay.specs.declared.Ended.{Ended}
 use Rattle.replay.specs.Machine.{Machine}
 use Rattle.replay.specs.Instructions.{isOuter, modesOf, hasOpposite}
 use Rattle.replay.specs.Execution.{machineTests, wordTests, wordRefusal, refusalOf, none?, effect, unless, after, outcomeNumber}
-use Rattle.replay.specs.Lists.{played, mostWords, listTest, runTests, begun, before, stop, ranWords, ran, runOf, runLeft}
+use Rattle.replay.specs.Lists.{played, mostWords, listTest, runTests, atStart, before, stop, ranWords, ran, runOf, runLeft}
 use Rattle.replay.specs.Exchange.{flipS, exchanged}
 use Rattle.replay.specs.Claims.{executeNumber, executeMissing, Keeps, Clears, BenchPasses, FirstFiveOn, Executes, NeedsModes, runNumber, runCount, Ends, Runs}
 use Rattle.replay.proofs.Tests.{outcome-back, word-fair}
@@ -174,37 +174,37 @@ module _ (m : Machine) (ws : List ℕ) where
   listAnswer = firstFailure (listTest (length ws) ∷ [])
 
   abbrev fromSix : Option Refusal
-  fromSix = orElse listAnswer (stop (begun m) ws)
+  fromSix = orElse listAnswer (stop (atStart m) ws)
 
   -- tests 1 to 5, then those
   run-is : runNumber m ws ≡ givenOn m fromSix
   unfolding runOf
   run-is =
       ap numberOf
-      (ap (λ o. orElse o (stop (begun m) ws)) (failure-++ (machineTests m) (listTest (length ws) ∷ []))
-      ∙ or-else (firstFailure (machineTests m)) listAnswer (stop (begun m) ws))
+      (ap (λ o. orElse o (stop (atStart m) ws)) (failure-++ (machineTests m) (listTest (length ws) ∷ []))
+      ∙ or-else (firstFailure (machineTests m)) listAnswer (stop (atStart m) ws))
 
   six-late : 0 < numberOf fromSix → 5 < numberOf fromSix
   six-late = go (ltb mostWords (length ws))
     where
-      go : (t : Bool) → 0 < numberOf (orElse (cond t (some ListLength) none) (stop (begun m) ws)) → 5 < numberOf (orElse (cond t (some ListLength) none) (stop (begun m) ws))
+      go : (t : Bool) → 0 < numberOf (orElse (cond t (some ListLength) none) (stop (atStart m) ws)) → 5 < numberOf (orElse (cond t (some ListLength) none) (stop (atStart m) ws))
       go true h = omega arith
-      go false h = let l = leaves-late (leaves ws (begun m)) h in omega arith
+      go false h = let l = leaves-late (leaves ws (atStart m)) h in omega arith
 
   is-six : (numberOf fromSix ≡ 6) ↔ (mostWords < length ws)
   is-six = go (ltb mostWords (length ws)) refl
     where
-      go : (t : Bool) → ltb mostWords (length ws) ≡ t → (numberOf (orElse (cond t (some ListLength) none) (stop (begun m) ws)) ≡ 6) ↔ (mostWords < length ws)
+      go : (t : Bool) → ltb mostWords (length ws) ≡ t → (numberOf (orElse (cond t (some ListLength) none) (stop (atStart m) ws)) ≡ 6) ↔ (mostWords < length ws)
       go true e = (λ n. ltb-true mostWords (length ws) e, λ h. refl)
       go false e =
           let h = ltb-false mostWords (length ws) e in
-          (λ n. let l = leaves-late (leaves ws (begun m)) (omega arith) in absurd (omega arith), λ l. absurd (omega arith))
+          (λ n. let l = leaves-late (leaves ws (atStart m)) (omega arith) in absurd (omega arith), λ l. absurd (omega arith))
 
   run-passes : BenchPasses m → length ws ≤ mostWords → Ends m ws (runCount m ws) (runNumber m ws) (runLeft m ws)
   run-passes h n =
       let (r, a) = run-begun m ws (bench-passed (m .bench) (length (m .z)) (length (m .p)) (length (m .za)) h) n in
       subst (λ (r : Ended). Ends m ws (r .count) (outcomeNumber (r .outcome)) (runLeft m ws)) r
-      (subst (Ends m ws (length (before (begun m) ws)) (numberOf (stop (begun m) ws))) a (run-ends m ws h))
+      (subst (Ends m ws (length (before (atStart m) ws)) (numberOf (stop (atStart m) ws))) a (run-ends m ws h))
 
   run-refused : 0 < runNumber m ws → runNumber m ws ≤ 6 → (runCount m ws ≡ 0) × (runLeft m ws ≡ m)
   run-refused l k = go (firstFailure (runTests m ws)) refl
@@ -213,15 +213,15 @@ module _ (m : Machine) (ws : List ℕ) where
       go (some r) e = let (c, a) = run-not-begun m ws r e in (sym (ap (λ (r : Ended). r .count) c), sym a)
       go none e =
           let (c, a) = run-by m ws none e in
-          let n : numberOf (stop (begun m) ws) ≡ runNumber m ws = ap (λ (r : Ended). outcomeNumber (r .outcome)) c in
-          let f = leaves-late (leaves ws (begun m)) (omega arith) in
+          let n : numberOf (stop (atStart m) ws) ≡ runNumber m ws = ap (λ (r : Ended). outcomeNumber (r .outcome)) c in
+          let f = leaves-late (leaves ws (atStart m)) (omega arith) in
           absurd (omega arith)
 
   run-handed : HandedAt m ws (runOf m ws)
   run-handed = go (firstFailure (runTests m ws)) refl
     where
       go : (o : Option Refusal) → firstFailure (runTests m ws) ≡ o → HandedAt m ws (runOf m ws)
-      go none e = subst (HandedAt m ws) (run-by m ws none e .0) (leaves-handed (leaves ws (begun m)))
+      go none e = subst (HandedAt m ws) (run-by m ws none e .0) (leaves-handed (leaves ws (atStart m)))
       go (some r) e =
           let flags = m .bench .flags in
           let w = getD ws 0 0 in
@@ -237,14 +237,14 @@ module _ (m : Machine) (ws : List ℕ) where
       go none e false f =
           let h = ltb-false mostWords (length ws) f in
           let c = ap (λ (r : Ended). r .count) (run-begun m ws e h .0) in
-          omega (arith, leaves-within (leaves ws (begun m)))
+          omega (arith, leaves-within (leaves ws (atStart m)))
 
   run-words : ran m ws ≡ take (runCount m ws) ws
   unfolding ran runOf
   run-words = go (firstFailure (runTests m ws))
     where
       go : (o : Option Refusal) → ranWords o m ws ≡ take (length (ranWords o m ws)) ws
-      go none = taken ws (begun m)
+      go none = taken ws (atStart m)
       go (some r) = refl
 
   -- what a run gets, how many words it executes, and what it leaves

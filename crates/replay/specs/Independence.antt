@@ -13,7 +13,11 @@ use Rattle.replay.specs.Clearing.{clearedBy}
 use Rattle.replay.specs.Lists.{ran, runOf, runLeft}
 use Rattle.replay.specs.Claims.{runCount, runNumber}
 
--- the same bench, Z and P, and another ZA of the same length
+-- another ZA of the same length: with it, a start differs in ZA's bytes alone
+abbrev pub OtherZa : Machine → List ℕ → Type 0
+OtherZa m zb = length zb ≡ length (m .za)
+
+-- ---- the claim, where OtherZa m zb
 module _ (m : Machine) (zb : List ℕ) (ws : List ℕ) where
   -- byte q of ZA ends the same in both runs
   abbrev pub EndsSame : ℕ → Type 0

@@ -37,8 +37,8 @@ pub record Progress : Type 0 where
   pub cleared : ℕ → Bool
 
 -- before the first word no row is cleared, whatever ZA holds
-abbrev pub begun : Machine → Progress
-begun m = record { machine = m; cleared = λ r. false }
+abbrev pub atStart : Machine → Progress
+atStart m = record { machine = m; cleared = λ r. false }
 
 -- a word executed
 abbrev pub onward : Progress → ℕ → Progress
@@ -78,14 +78,14 @@ leftAtEnd s ws = played (s .machine) (before s ws)
 
 -- the words that a run executes, and the refusal that ends it: tests 1 to 6 first
 abbrev pub ranWords : Option Refusal → Machine → List ℕ → List ℕ
-ranWords none m ws = before (begun m) ws
+ranWords none m ws = before (atStart m) ws
 ranWords (some r) m ws = []
 
 unfoldable pub ran : Machine → List ℕ → List ℕ
 ran m ws = ranWords (firstFailure (runTests m ws)) m ws
 
 unfoldable pub runOf : Machine → List ℕ → Ended
-runOf m ws = ended (length (ran m ws)) (orElse (firstFailure (runTests m ws)) (stop (begun m) ws))
+runOf m ws = ended (length (ran m ws)) (orElse (firstFailure (runTests m ws)) (stop (atStart m) ws))
 
 -- what executing those words singly, in turn, leaves
 unfoldable pub runLeft : Machine → List ℕ → Machine

@@ -15,7 +15,7 @@ ghost use Rattle.replay.specs.Lists.{nextTests};
 use crate::Bench;
 use crate::Modes;
 use crate::Outcome;
-use crate::clearing::tile_cleared;
+use crate::clearing::named_cleared;
 use isa::Decoded;
 use isa::Instruction;
 use isa::Refusal;
@@ -59,7 +59,7 @@ pub(crate) fn admit_next(bench: Bench, cleared: u8, word: u32) -> Decoded
 {
     match isa::decode(bench.flags, word) {
         Decoded::Refused(r) => Decoded::Refused(r),
-        Decoded::Accepted(i) => match check_needs(bench, modes_of(i), tile_cleared(cleared, i)) {
+        Decoded::Accepted(i) => match check_needs(bench, modes_of(i), named_cleared(cleared, i)) {
             Outcome::Refused(r) => Decoded::Refused(r),
             Outcome::Done => Decoded::Accepted(i),
         },
@@ -70,10 +70,12 @@ pub(crate) fn admit_next(bench: Bench, cleared: u8, word: u32) -> Decoded
 fn check_needs(bench: Bench, needs: Modes, cleared: bool) -> Outcome
     ensures { λ r. ⌜ r ≡ outcome (firstFailure (modeTests bench needs ++ (record { fails = not cleared; gives = Refusal.NotCleared } ∷ []))) ⌝ }
 {
-    if needs.streaming & !bench.sm {
+    let streaming_off = needs.streaming & !bench.sm;
+    let za_off = needs.za & !bench.za;
+    if streaming_off {
         return Outcome::Refused(Refusal::StreamingOff);
     }
-    if needs.za & !bench.za {
+    if za_off {
         return Outcome::Refused(Refusal::ZaOff);
     }
     if !cleared {

@@ -12,7 +12,7 @@ use isa::Operation;
 use isa::Tile;
 
 // Whether every row of the tile that an instruction names is cleared; one that names none has none to clear.
-pub(crate) fn tile_cleared(cleared: u8, i: Instruction) -> bool
+pub(crate) fn named_cleared(cleared: u8, i: Instruction) -> bool
     requires { ⌜ inRange i ≡ true ⌝ }
     ensures { λ r. ⌜ TellsCleared r cleared (tileNamed (some i)) ⌝ }
 {
@@ -24,19 +24,19 @@ pub(crate) fn tile_cleared(cleared: u8, i: Instruction) -> bool
             pm: _,
             zn: _,
             zm: _,
-        } => rows_cleared(cleared, op, tile),
+        } => tile_cleared(cleared, op, tile),
         Instruction::Quarter {
             op,
             tile,
             first: _,
             second: _,
-        } => rows_cleared(cleared, op, tile),
+        } => tile_cleared(cleared, op, tile),
         Instruction::Zero(_) => true,
     }
 }
 
 // A 64-bit tile has its own rows; a 32-bit tile t has those of 64-bit tiles t and t + 4.
-fn rows_cleared(cleared: u8, op: Operation, tile: Tile) -> bool
+fn tile_cleared(cleared: u8, op: Operation, tile: Tile) -> bool
     requires { ⌜ tile .0 < elementBytes op ⌝ }
     ensures { λ r. ⌜ TellsCleared r cleared (some (record { E = elementBytes op; tile = tile .0 })) ⌝ }
 {

@@ -4,7 +4,7 @@ ghost use mathlib.Core.Option.{none};
 ghost use Rattle.isa.specs.Refusals.{firstFailure};
 ghost use Rattle.replay.specs.Machine.{on};
 ghost use Rattle.replay.specs.Execution.{machineTests, outcomeNumber, outcomeMissing};
-ghost use Rattle.replay.specs.Lists.{played, begun, endOf, leftAtEnd, runOf, runLeft};
+ghost use Rattle.replay.specs.Lists.{played, atStart, endOf, leftAtEnd, runOf, runLeft};
 ghost use Rattle.replay.specs.Claims.{runCount, runNumber, runMissing};
 use crate::Bench;
 use crate::Ended;
@@ -48,8 +48,8 @@ pub fn run(bench: Bench, z: &[u8], p: &[u8], za: &mut [u8], words: &[u32]) -> En
 // The words of a run on a bench that passed 1 to 5. Nothing is cleared before the first, whatever ZA holds.
 fn run_words(bench: Bench, z: &[u8], p: &[u8], za: &mut [u8], words: &[u32]) -> Ended
     requires { ⌜ firstFailure (machineTests (on bench (now z) (now p) (now za))) ≡ none ⌝ }
-    ensures { λ r. ⌜ r ≡ endOf (begun (on bench (now (z .entry)) (now (p .entry)) (now (za .entry)))) (now (words .entry)) ⌝ }
-    ensures { λ _. ⌜ now (za .exit) ≡ leftAtEnd (begun (on bench (now (z .entry)) (now (p .entry)) (now (za .entry)))) (now (words .entry)) .za ⌝ }
+    ensures { λ r. ⌜ r ≡ endOf (atStart (on bench (now (z .entry)) (now (p .entry)) (now (za .entry)))) (now (words .entry)) ⌝ }
+    ensures { λ _. ⌜ now (za .exit) ≡ leftAtEnd (atStart (on bench (now (z .entry)) (now (p .entry)) (now (za .entry)))) (now (words .entry)) .za ⌝ }
 {
     let mut cleared = 0u8;
     let mut i = 0;

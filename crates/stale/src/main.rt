@@ -11,7 +11,7 @@ const FLAGS: u32 = 15;
 
 const ZERO_ALL: u32 = 0xC008_00FF;
 
-// Outer products of each family and shape, which name tiles with every row of ZA between them.
+// The kernel of `assemble` without its ZEROs: outer products of each family and shape, on tiles that have every row of ZA.
 const KERNEL: [u32; 6] = [
     0xA0A0_0000,
     0xA1CA_C537,
@@ -58,8 +58,8 @@ fn with_zero(z: &[u8], p: &[u8], zero: u32) {
     run_from_both(b" first", z, p, &words);
 }
 
-// Runs words on old sums and on zeros: how many of them are executed, how many bytes of ZA differ in the end, and the word that
-// is refused.
+// Runs words on old sums and on zeros: how many are executed and the refusal of the next, 0 for none, of both; how many bytes of
+// ZA differ in the end; and the word that is refused.
 fn run_from_both(name: &[u8], z: &[u8], p: &[u8], words: &[u32]) {
     let mut old = old_sums();
     let mut zeros = [0u8; 256];
@@ -68,10 +68,20 @@ fn run_from_both(name: &[u8], z: &[u8], p: &[u8], words: &[u32]) {
     io::write_all(STDOUT_FILENO, name);
     part(b": executed ", ended.count as u64);
     part(b" of ", words.len() as u64);
-    part(b", on zeros ", again.count as u64);
-    write_differing(&old, &zeros);
     let outcome = ended.outcome;
+    part(b", refused ", number_of(outcome));
+    part(b"; on zeros ", again.count as u64);
+    let outcome_again = again.outcome;
+    part(b", refused ", number_of(outcome_again));
+    write_differing(&old, &zeros);
     write_stop(words, ended.count, outcome);
+}
+
+fn number_of(outcome: Outcome) -> u64 {
+    match outcome {
+        Outcome::Done => 0,
+        Outcome::Refused(r) => isa::number(r) as u64,
+    }
 }
 
 // The word at which a run stopped, if it did: its place in the list, its text and the refusal.

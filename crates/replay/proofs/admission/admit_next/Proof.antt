@@ -54,7 +54,7 @@ tested c =
     let b = s .args .bench in
     c .check-needs .ensures
     ∙ ap₂ (λ (n : Modes) (t : Bool). outcome (firstFailure (modeTests b n ++ (record { fails = not t; gives = NotCleared } ∷ []))))
-    (c .before .before .modes-of .ensures) (c .before .tile-cleared .ensures (b .vb) (s .pre .1))
+    (c .before .before .modes-of .ensures) (c .before .named-cleared .ensures (b .vb) (s .pre .1))
     ∙ sym (ap outcome (word-accepted b (s .args .word) (s .pre .0) (last s (describe (s .args .word))) _ (decoded d)
     ∙ ap (λ i. firstFailure (modeTests b (modesOf (some (d .i .given .0 .0))) ++ last s i)) (is-described d)))
 

@@ -1,33 +1,35 @@
--- `replay::clearing::tile_cleared` meets its contract: by the kind of instruction. Assumes nothing.
+-- `replay::clearing::tile_cleared` meets its contract: the tile's rows are those of one bit, or of two. Assumes nothing.
 use mathlib.Core.Path.{_∙_, sym, ap}
+use mathlib.Core.Bool.{_&&_}
+use Prim.Native.Nat.{_+_, _-_, _≤_, _<_}
+use native.Mathlib.Omega.{arith}
 use borrow.Author.Needs.{needs}
-use Rattle.isa.specs.Table.{inRange}
-use Rattle.replay.proofs.Ready.{predicated-tile, quarter-tile}
+use Rattle.storage.proofs.Sizes.{legal-length}
+use Rattle.replay.proofs.Links.{element-width}
+use Rattle.replay.proofs.Masks.{tile-rows, hasBit, tile-bits}
 use Rattle.replay.proofs.clearing.tile_cleared.Statement.{statement}
 use Rattle.replay.proofs.clearing.tile_cleared.Tie as tie
 
-rows-cleared-requires : tie.Need-rows-cleared-requires
-rows-cleared-requires c κs =
-    let i = c .before in
-    let g = i .i .given .0 in
-    predicated-tile (g .0) (g .1 .0) (g .1 .1 .0) (g .1 .1 .1 .0) (g .1 .1 .1 .1 .0) (g .1 .1 .1 .1 .1 .0)
-    (sym (ap inRange (i .i .given .1)) ∙ i .before .before .pre)
+-- the two bits are two of the eight
+rows : (c : tie.After-element-bytes)
+    → (let t = c .before .args .tile .0 in let E = c .element-bytes .result in (E ≤ 8) × ((t < 8) × (t + (8 - E) < 8)))
+rows c = let a = c .before .args in rw (c .element-bytes .ensures) (tile-rows (a .tile .0) (element-width (a .op)) (c .before .pre))
 
-rows-cleared-requires-2 : tie.Need-rows-cleared-requires-2
-rows-cleared-requires-2 c κs =
-    let i = c .before in
-    let g = i .i2 .given .0 in
-    quarter-tile (g .0) (g .1 .0) (g .1 .1 .0) (g .1 .1 .1 .0) (sym (ap inRange (i .i2 .given .1)) ∙ i .before .before .pre)
+returns : tie.Need-returns
+returns c vb l =
+    let a = c .before .args in
+    ap (λ E. hasBit (a .cleared) (a .tile .0) && hasBit (a .cleared) (a .tile .0 + (8 - E))) (c .element-bytes .ensures)
+    ∙ sym (tile-bits vb (a .cleared) (a .tile .0) (legal-length vb l) (element-width (a .op)) (c .before .pre))
 
 pub tile-cleared-spec : {M : Type 1} → statement M
 tile-cleared-spec =
     tie.close
     (tie.spec
-    (λ c. search needs)
-    rows-cleared-requires
-    (λ c. search needs)
-    rows-cleared-requires-2
-    (λ c. search needs)
-    (λ c vb l. rw (c .before .before .i .given .1) (c .rows-cleared .ensures vb l))
-    (λ c vb l. rw (c .before .before .i2 .given .1) (c .rows-cleared2 .ensures vb l))
-    (λ c vb l. rw (c .enum-told .given .1)))
+    (λ c κs. search needs)
+    (λ c. omega (arith, rows c))
+    (λ c. omega (arith, rows c))
+    (λ c. omega (arith, rows c))
+    (λ c. omega (arith, rows c))
+    (λ c. omega (arith, rows c))
+    (λ c. omega (arith, rows c))
+    returns)

@@ -14,7 +14,7 @@ use Rattle.replay.specs.Machine.{Machine, on}
 use Rattle.replay.specs.Instructions.{maskOf}
 use Rattle.replay.specs.Execution.{machineTests, Ranged}
 use Rattle.replay.specs.Clearing.{inMask, clearedTest}
-use Rattle.replay.specs.Lists.{begun, nextRefusal}
+use Rattle.replay.specs.Lists.{atStart, nextRefusal}
 use Rattle.replay.proofs.Tests.{machine-passes, admit-accepted, admit-refused}
 use Rattle.replay.proofs.Keeping.{same-tests}
 use Rattle.replay.proofs.Runs.{next-passed, byMask, nothing-cleared, executed-next, Running, run-start, run-turn, run-refused, run-end, as-single}
@@ -22,7 +22,7 @@ use Rattle.replay.proofs.lists.run_words.Statement.{statement}
 use Rattle.replay.proofs.lists.run_words.Tie as tie
 
 abbrev Inv-loop : tie.InvT-loop
-Inv-loop bench z p za₀ words cleared₀ i₀ za cleared i = Running (begun (on bench z p za₀)) words (byMask (on bench z p za) cleared) i
+Inv-loop bench z p za₀ words cleared₀ i₀ za cleared i = Running (atStart (on bench z p za₀)) words (byMask (on bench z p za) cleared) i
 
 abbrev μ-loop : tie.MeasureT-loop
 μ-loop bench z p za₀ words cleared₀ i₀ za cleared i = length words - i
