@@ -24,7 +24,7 @@ use Rattle.replay.specs.Machine.{Machine, withZa}
 use Rattle.replay.specs.Instructions.{namesTile}
 use Rattle.replay.specs.Execution.{machineTests, refusalOf, after}
 use Rattle.replay.specs.Clearing.{inMask, clearsRow, clearedBy}
-use Rattle.replay.specs.Lists.{played, mostWords, runTests, Progress, atStart, nextRefusal, ended, keep, before, stop, ranWords, ran, runOf, runLeft}
+use Rattle.replay.specs.Lists.{played, mostWords, runTests, Progress, nextRefusal, ended, keep, before, stop, ranWords, ran, runOf, runLeft}
 use Rattle.replay.specs.Claims.{Keeps, runCount, runNumber, Ends}
 use Rattle.replay.specs.Independence.{OtherZa, EndsSame, TileEndsSame, Independent}
 use Rattle.replay.proofs.Tests.{machine-passes}

@@ -11,13 +11,12 @@ use lib.Seq.{drop-cons}
 use borrow.Author.Tests.{lt-ltb, le-ltb}
 use Rattle.isa.specs.Refusals.{firstFailure, orElse}
 use Rattle.isa.specs.Answers.{describe}
-use Rattle.isa.specs.declared.Instruction.{Instruction}
 use Rattle.isa.specs.declared.Refusal.{Refusal}
 use Rattle.isa.specs.declared.Refusal.the-variants.{ListLength, NotCleared}
 use Rattle.storage.specs.Tile.{masked}
 use Rattle.replay.specs.Machine.{Machine, withZa}
 use Rattle.replay.specs.Instructions.{tileNamed}
-use Rattle.replay.specs.Execution.{wordTests, wordRefusal, machineTests, effect, after, outcomeNumber, outcomeMissing}
+use Rattle.replay.specs.Execution.{wordTests, wordRefusal, machineTests, leftBy, after, outcomeNumber, outcomeMissing}
 use Rattle.replay.specs.Clearing.{clearsRow, tileCleared, clearedTest}
 use Rattle.replay.specs.Lists.{played, mostWords, listTest, runTests, Progress, atStart, onward, nextRefusal, ended, before, stop}
 use Rattle.replay.specs.Lists.{endOf, leftAtEnd, ranWords, ran, runOf, runLeft}
@@ -56,11 +55,15 @@ next-by s w =
     go none e true f = passes e f
     go none e false f = uncleared e f
 
-pub next-passed : (s : Progress) (w : ℕ) → nextRefusal s w ≡ none → wordRefusal (s .machine) w ≡ none
+next-passed : (s : Progress) (w : ℕ) → nextRefusal s w ≡ none → wordRefusal (s .machine) w ≡ none
 next-passed s w e = go (subst (Next s w) e (next-by s w))
   where
     go : Next s w none → wordRefusal (s .machine) w ≡ none
     go (passes f c) = f
+
+-- what it leaves, by its refusal
+abbrev pub nextLeft : Progress → ℕ → Machine
+nextLeft s w = leftBy (s .machine) w (nextRefusal s w)
 
 -- ---- the first word of a list
 module _ (s : Progress) (w : ℕ) (ws : List ℕ) where
@@ -155,10 +158,11 @@ module _ (s₀ : Progress) (ws : List ℕ) where
     run-end h = let e = drop-of-length-le ws h in run-stops none (ap (before s) e ∙ before-end s) (ap (stop s) e ∙ stop-end s)
 
     module _ (h : i < length ws) where
-      pub run-refused : (r : Refusal) → nextRefusal s (getD ws i 0) ≡ some r → RunEnds i (some r) (s .machine .za)
-      run-refused r f =
+      pub run-refused : (r : Refusal) (za : List ℕ) → nextRefusal s (getD ws i 0) ≡ some r → za ≡ nextLeft s (getD ws i 0) .za → RunEnds i (some r) za
+      run-refused r za f u =
           let e = left-cons ws i h in
-          run-stops (some r) (ap (before s) e ∙ before-none s _ _ r f) (ap (stop s) e ∙ stop-here s _ _ r f)
+          let x = run-stops (some r) (ap (before s) e ∙ before-none s _ _ r f) (ap (stop s) e ∙ stop-here s _ _ r f) in
+          (x .0, u ∙ ap (λ o. leftBy (s .machine) (getD ws i 0) o .za) f ∙ x .1)
 
       pub run-turn : (s′ : Progress) → nextRefusal s (getD ws i 0) ≡ none → s′ ≡ onward s (getD ws i 0) → Running s′ (i + 1)
       run-turn s′ f e =
@@ -177,10 +181,12 @@ module _ (s₀ : Progress) (ws : List ℕ) where
           })
 
 -- a word of a run leaves what it does singly
-pub as-single : (m : Machine) (w : ℕ) (i : Instruction) (za : List ℕ) → firstFailure (machineTests m) ≡ none → wordRefusal m w ≡ none → describe w ≡ some i
-    → za ≡ effect m (some i) .za → withZa m za ≡ after m w
-as-single m w i za h f d e =
-    turn m w za (e ∙ sym (ap (λ (n : Machine). n .za) (after-by m w none (refused-by-word m w h ∙ f) ∙ ap (effect m) d)))
+pub as-single : (s : Progress) (w : ℕ) (za : List ℕ) → firstFailure (machineTests (s .machine)) ≡ none → nextRefusal s w ≡ none → za ≡ nextLeft s w .za
+    → withZa (s .machine) za ≡ after (s .machine) w
+as-single s w za h f e =
+    let m = s .machine in
+    let g = ap (leftBy m w) f ∙ sym (after-by m w none (refused-by-word m w h ∙ next-passed s w f)) in
+    turn m w za (e ∙ ap (λ (n : Machine). n .za) g)
 
 -- ---- a run by its first tests
 module _ (m : Machine) (ws : List ℕ) where

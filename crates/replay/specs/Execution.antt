@@ -1,5 +1,4 @@
 -- One word: which refusal it gets, and what it leaves (document 01, "Execution" and "Refusal numbers", and document 02, C-15).
-use mathlib.Core.Path.{_≡_}
 use mathlib.Core.Bool.{Bool, true, false, not, _&&_}
 use mathlib.Core.List.{List, [], _∷_, _++_}
 use mathlib.Core.Option.{Option, none, some}
@@ -11,9 +10,6 @@ use Rattle.isa.specs.Refusals.{refusalNumber, refusalMissing, Test, firstFailur
 use Rattle.isa.specs.Answers.{describe, flagsTest, listingTests}
 use Rattle.isa.specs.declared.Refusal.{Refusal}
 use Rattle.isa.specs.declared.Refusal.the-variants.{VectorLength, ZLength, PLength, ZaLength, StreamingOff, ZaOff}
-use Rattle.isa.specs.Table.{inRange}
-use Rattle.isa.specs.declared.Decoded.{Decoded}
-use Rattle.isa.specs.declared.Decoded.the-variants.{Accepted, Refused as NotDecoded}
 use Rattle.isa.specs.declared.Instruction.{Instruction}
 use Rattle.storage.specs.Sizes.{legal, zSize, pSize, zaSize}
 use Rattle.storage.specs.Tile.{addTo, clear}
@@ -58,11 +54,6 @@ wordRefusal m w = firstFailure (wordTests (m .bench) w)
 -- the refusal that a word gets: tests 1 to 5, then 7 to 10
 unfoldable pub refusalOf : Machine → ℕ → Option Refusal
 refusalOf m w = firstFailure (machineTests m ++ wordTests (m .bench) w)
-
--- an instruction that a word is admitted as has every number in range
-abbrev pub Ranged : Decoded → Type 0
-Ranged (Accepted i) = inRange i ≡ true
-Ranged (NotDecoded r) = Unit {0}
 
 abbrev pub none? : Option Refusal → Bool
 none? none = true

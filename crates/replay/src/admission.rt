@@ -10,7 +10,7 @@ ghost use Rattle.isa.specs.Answers.{describe, decided};
 ghost use Rattle.storage.specs.Sizes.{legal};
 ghost use Rattle.storage.specs.Tile.{masked};
 ghost use Rattle.replay.specs.Instructions.{modesOf};
-ghost use Rattle.replay.specs.Execution.{benchTests, modeTests, wordTests, Ranged, outcome};
+ghost use Rattle.replay.specs.Execution.{benchTests, modeTests, wordTests, outcome};
 ghost use Rattle.replay.specs.Lists.{nextTests};
 use crate::Bench;
 use crate::Modes;
@@ -55,7 +55,6 @@ pub(crate) fn admit(bench: Bench, word: u32) -> Decoded
 pub(crate) fn admit_next(bench: Bench, cleared: u8, word: u32) -> Decoded
     requires { ⌜ (bench .flags ≤ allFlags) × (legal (bench .vb) ≡ true) ⌝ }
     ensures { λ r. ⌜ r ≡ decided (firstFailure (nextTests bench (masked cleared) word)) (describe word) ⌝ }
-    ensures { λ r. ⌜ Ranged r ⌝ }
 {
     match isa::decode(bench.flags, word) {
         Decoded::Refused(r) => Decoded::Refused(r),

@@ -9,11 +9,10 @@ ghost use Rattle.replay.specs.Claims.{runCount, runNumber, runMissing};
 use crate::Bench;
 use crate::Ended;
 use crate::Outcome;
-use crate::admission::admit_next;
 use crate::admission::check_bench;
 use crate::clearing::also_cleared;
 use crate::executor::execute;
-use crate::executor::perform;
+use crate::executor::execute_next;
 use isa::Decoded;
 use isa::Refusal;
 
@@ -60,7 +59,7 @@ fn run_words(bench: Bench, z: &[u8], p: &[u8], za: &mut [u8], words: &[u32]) -> 
                 outcome: Outcome::Done,
             };
         }
-        match admit_next(bench, cleared, words[i]) {
+        match execute_next(bench, z, p, za, cleared, words[i]) {
             Decoded::Refused(r) => {
                 break Ended {
                     count: i,
@@ -68,7 +67,6 @@ fn run_words(bench: Bench, z: &[u8], p: &[u8], za: &mut [u8], words: &[u32]) -> 
                 };
             }
             Decoded::Accepted(instruction) => {
-                perform(bench, instruction, z, p, za);
                 cleared = also_cleared(cleared, instruction);
             }
         }

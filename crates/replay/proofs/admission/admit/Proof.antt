@@ -8,7 +8,7 @@ use Rattle.replay.proofs.admission.admit.Tie as tie
 returns : tie.Need-returns
 returns c =
     let a = c .before .args in
-    c .admit-next .ensures .0 ∙ ap (λ o. decided o (describe (a .word))) (tested-singly (a .bench) (a .word))
+    c .admit-next .ensures ∙ ap (λ o. decided o (describe (a .word))) (tested-singly (a .bench) (a .word))
 
 pub admit-spec : {M : Type 1} → statement M
 admit-spec = tie.close (tie.spec (λ c κs. c .pre) returns)

@@ -63,19 +63,19 @@ returns c =
     let s = c .before .before .before .before in
     let w = s .args .word in
     let f = word-refused (s .args .bench) w (s .pre .0) (last s (describe w)) _ (sym (c .before .before .before .decode .ensures .0) ∙ c .before .r .given .1) in
-    (sym (ap (λ o. decided o (describe w)) f), tt)
+    sym (ap (λ o. decided o (describe w)) f)
 
 returns-2 : tie.Need-returns-2
 returns-2 c =
     let m = c .before .before .before in
     let s = start (decoded-at m) in
-    (sym (ap (λ o. decided o (describe (s .args .word))) (outcome-refused (refusal s) _ (sym (c .before .r2 .given .1) ∙ tested m))), tt)
+    sym (ap (λ o. decided o (describe (s .args .word))) (outcome-refused (refusal s) _ (sym (c .before .r2 .given .1) ∙ tested m)))
 
 returns-3 : tie.Need-returns-3
 returns-3 c =
     let m = c .before .before in
     let d = decoded-at m in
-    (sym (ap₂ decided (outcome-done (refusal (start d)) (sym (c .enum-told .given .1) ∙ tested m)) (is-described d)), in-range d)
+    sym (ap₂ decided (outcome-done (refusal (start d)) (sym (c .enum-told .given .1) ∙ tested m)) (is-described d))
 
 pub admit-next-spec : {M : Type 1} → statement M
 admit-next-spec =

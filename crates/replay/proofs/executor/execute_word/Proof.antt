@@ -1,60 +1,54 @@
--- `replay::executor::execute_word` meets its contract: by what the word is admitted as. Assumes nothing.
-use mathlib.Core.Path.{_≡_, _∙_, sym, ap, ap₂}
-use mathlib.Core.List.{List, []}
-use mathlib.Core.Option.{Option, none, some}
-use Prim.Native.Nat.{ℕ}
+-- `replay::executor::execute_word` meets its contract: where every tile counts as cleared, 14 refuses nothing. Assumes nothing.
+use mathlib.Core.Path.{_≡_, _∙_, sym, ap}
+use mathlib.Core.List.{[]}
 use borrow.Author.Needs.{needs}
-use Rattle.isa.specs.Answers.{describe}
-use Rattle.isa.specs.declared.Instruction.{Instruction}
-use Rattle.isa.specs.declared.Refusal.{Refusal}
-use Rattle.isa.proofs.Theorems.{described-is}
+use Rattle.isa.specs.Refusals.{firstFailure}
+use Rattle.isa.specs.Answers.{describe, decided}
+use Rattle.storage.specs.Tile.{masked}
 use Rattle.replay.specs.Machine.{Machine, on}
-use Rattle.replay.specs.Execution.{wordRefusal, effect, unless, outcome}
-use Rattle.replay.proofs.Tests.{machine-passes, admit-accepted, admit-refused}
+use Rattle.replay.specs.Execution.{wordRefusal, leftBy, wordLeft, outcome}
+use Rattle.replay.specs.Lists.{nextTests}
+use Rattle.replay.proofs.Tests.{admit-accepted, admit-refused}
+use Rattle.replay.proofs.Masks.{tested-singly}
 use Rattle.replay.proofs.executor.execute_word.Statement.{statement}
 use Rattle.replay.proofs.executor.execute_word.Tie as tie
+
+abbrev start : tie.After-execute-next → tie.Start
+start c = c .before .before .before .before .before
 
 abbrev machine : tie.Start → Machine
 machine s = on (s .args .bench) (s .args .z .now) (s .args .p .now) (s .args .za .now)
 
--- ZA by the word's refusal and its instruction
-abbrev left : tie.Start → Option Refusal → Option Instruction → List ℕ
-left s o d = unless o (machine s) (effect (machine s) d) .za
-
-abbrev start : tie.After-i → tie.Start
-start c = c .before .before .before .before .before .before
-
-admitted : (c : tie.After-i)
-    → (wordRefusal (machine (start c)) (start c .args .word) ≡ none) × (describe (start c .args .word) ≡ some (c .i .given .0 .0))
-admitted c =
+-- what is answered and what is left, by tests 7 to 10 alone
+answered : (c : tie.After-execute-next) → (let s = start c in c .execute-next .result ≡ decided (wordRefusal (machine s) (s .args .word)) (describe (s .args .word)))
+answered c =
     let a = start c .args in
-    admit-accepted (a .bench) (a .word) [] _ (sym (c .i .given .1) ∙ c .before .before .admit .ensures)
+    c .execute-next .ensures .0 ∙ ap (λ o. decided o (describe (a .word))) (tested-singly (a .bench) (a .word))
 
-perform-requires : tie.Need-perform-requires
-perform-requires c κs =
-    let i = c .before .before in
-    (start i .pre, described-is _ _ (search needs) (admitted i .1) .0)
+left : (s : tie.Start) → (let a = s .args in
+    leftBy (machine s) (a .word) (firstFailure (nextTests (a .bench) (masked 255) (a .word))) .za ≡ wordLeft (machine s) (a .word) .za)
+left s = ap (λ o. leftBy (machine s) (s .args .word) o .za) (tested-singly (s .args .bench) (s .args .word))
 
 returns : tie.Need-returns
 returns c =
-    let s = c .before .before .before .before .before .before .before in
-    let f = admit-refused (s .args .bench) (s .args .word) [] _ (sym (c .before .r .given .1) ∙ c .before .before .before .admit .ensures) in
-    (sym (ap outcome f), sym (ap (λ o. left s o (describe (s .args .word))) f))
+    let x = c .before .before .before .before .before in
+    let a = start x .args in
+    (sym (ap outcome (admit-refused (a .bench) (a .word) [] _ (sym (c .before .r .given .1) ∙ answered x))), x .execute-next .ensures .1 ∙ left (start x))
 
 returns-2 : tie.Need-returns-2
 returns-2 c =
-    let i = c .before .before .before .before .before in
-    let (f, d) = admitted i in
-    (sym (ap outcome f), c .before .before .perform .ensures ∙ sym (ap₂ (left (start i)) f d))
+    let x = c .before .before .before .before in
+    let a = start x .args in
+    (sym (ap outcome (admit-accepted (a .bench) (a .word) [] _ (sym (c .enum-told .given .1) ∙ answered x) .0)), x .execute-next .ensures .1 ∙ left (start x))
 
 pub execute-word-spec : {M : Type 1} → statement M
 execute-word-spec =
     tie.close
     (tie.spec
-    (λ c κs. let s = c .before .before .before in let b = machine-passes (machine s) (s .pre) in (b .flags, b .length-legal))
+    (λ c κs. c .before .before .before .before .pre)
     (λ c. search needs)
     (λ c. search needs)
-    perform-requires
+    (λ c. search needs)
     returns
     (λ c. search needs)
     returns-2)
