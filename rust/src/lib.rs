@@ -134,7 +134,7 @@ pub fn describe(flags: u32, word: u32) -> Result<Instruction, Refusal> {
     Ok(Instruction::of(fields))
 }
 
-/// Executes one word. `z` is 32 vectors of `vb` bytes, `p` 16 predicates of `vb` bits, `za` `vb` rows of `vb` bytes.
+/// Executes one word, whatever `za` holds. `z` is 32 vectors of `vb` bytes, `p` 16 predicates of `vb` bits, `za` `vb` rows of `vb` bytes.
 pub fn execute(bench: Bench, z: &[u8], p: &[u8], za: &mut [u8], word: u32) -> Result<(), Refusal> {
     // SAFETY: each address stands beside the length of its own slice; `za`, the only one written, is lent alone.
     accepted(unsafe {
@@ -155,7 +155,8 @@ pub fn execute(bench: Bench, z: &[u8], p: &[u8], za: &mut [u8], word: u32) -> Re
 }
 
 /// Executes a list of at most 65,536 words in turn on the same buffers, up to the first word refused; of a longer one, none.
-/// An outer product is refused too where its tile has a row that no ZERO of the list has cleared before it.
+/// An outer product is refused too where its tile has a row that no ZERO before it in the list has cleared; 32-bit tile t has
+/// the rows of 64-bit tiles t and t + 4. What `za` held before reaches no tile that an executed word names.
 pub fn run(bench: Bench, z: &[u8], p: &[u8], za: &mut [u8], words: &[u32]) -> Ended {
     // SAFETY: each address stands beside the length of its own slice; `za`, the only one written, is lent alone.
     let (count, refusal) = unpack(unsafe {

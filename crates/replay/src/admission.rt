@@ -43,7 +43,7 @@ pub(crate) fn check_bench(bench: Bench, z: usize, p: usize, za: usize) -> Outcom
     Outcome::Done
 }
 
-// Tests 7 to 10 of a word that is executed singly: its instruction, or the refusal. Every tile counts as cleared.
+// Tests 7 to 10 of a word by itself: its instruction, or the refusal. Every tile counts as cleared.
 pub(crate) fn admit(bench: Bench, word: u32) -> Decoded
     requires { ⌜ (bench .flags ≤ allFlags) × (legal (bench .vb) ≡ true) ⌝ }
     ensures { λ r. ⌜ r ≡ decided (firstFailure (wordTests bench word)) (describe word) ⌝ }
