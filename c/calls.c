@@ -287,6 +287,21 @@ static void longest_lists(void) {
     expect("run, its ZA", (uint64_t)memcmp(za, before, sizeof za), 0);
 }
 
+/* Words on ZA3.S, ZA7.D, ZA3.D and ZA2.D: a 32-bit tile t has the rows of 64-bit tiles t and t + 4. */
+static void orders(void) {
+    const uint32_t za3_s = 0xA0B9D783, za7_d = 0xA1FAD2E7, za3_d = 0xA0EB9DC3, za2_d = 0xA0D67B12;
+    expect("order_matters", birdaghol_order_matters(15, za3_s, za7_d), true);
+    expect("order_matters, the other way", birdaghol_order_matters(15, za7_d, za3_s), true);
+    expect("order_matters, one number", birdaghol_order_matters(15, za3_s, za3_d), true);
+    expect("order_matters, 2-way and quarter-tile", birdaghol_order_matters(15, 0xA1811FEA, 0xA0E402CE), true);
+    expect("order_matters, rows apart", birdaghol_order_matters(15, za3_s, za2_d), false);
+    expect("order_matters, one width", birdaghol_order_matters(15, za3_d, za7_d), false);
+    expect("order_matters, ZERO", birdaghol_order_matters(15, ZERO, za7_d), false);
+    expect("order_matters, unlisted", birdaghol_order_matters(15, za3_s, UNLISTED), false);
+    expect("order_matters, a feature off", birdaghol_order_matters(1, za3_s, za7_d), false);
+    expect("order_matters, flags", birdaghol_order_matters(16, za3_s, za7_d), false);
+}
+
 int main(void) {
     words();
     lines();
@@ -298,6 +313,7 @@ int main(void) {
     stopped_lists();
     lists_not_cleared();
     longest_lists();
+    orders();
     puts(wrong ? "calls from C: wrong" : "calls from C: as they should be");
     return wrong;
 }

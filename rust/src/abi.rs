@@ -1,5 +1,5 @@
-//! The functions of the static library as C sees them: a buffer is its address and its length. Every answer is a value
-//! times 65536, plus the sum of the missing flags times 256, plus the refusal's number.
+//! The functions of the static library as C sees them: a buffer is its address and its length. Every answer that is a number is a
+//! value times 65536, plus the sum of the missing flags times 256, plus the refusal's number.
 
 /// The kinds of instructions, a description's first number.
 pub const PREDICATED: u32 = 1;
@@ -45,6 +45,8 @@ unsafe extern "C" {
     pub safe fn birdaghol_encode_zero(mask: u8) -> u64;
 
     pub fn birdaghol_describe(flags: u32, word: u32, fields: *mut u32, fields_len: usize) -> u64;
+
+    pub safe fn birdaghol_order_matters(flags: u32, a: u32, b: u32) -> bool;
 
     pub fn birdaghol_execute(
         flags: u32,

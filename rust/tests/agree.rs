@@ -279,6 +279,59 @@ fn run_longest_lists() {
     }
 }
 
+/// Any two words get the same answer, whichever comes first.
+#[test]
+fn order_matters() {
+    let mut answers = [0; 2];
+    for seed in seeds(1_000_000) {
+        let random = &mut Random::new(seed);
+        let flags = if random.chance(4) { sample::flags(random) } else { 15 };
+        let [a, b] = [(); 2].map(|()| sample::word(random, 7));
+        let expected = pseudocode::order_matters(flags, a, b);
+        let given = [(a, b), (b, a)].map(|(first, second)| birdaghol::order_matters(flags, first, second));
+        assert_eq!(given, [expected; 2], "seed {seed}: flags {flags}, words {a:08x} and {b:08x}");
+        answers[usize::from(expected)] += 1;
+    }
+    assert!(answers.iter().all(|&count| count >= 50_000), "an answer is too rare: {answers:?}");
+}
+
+/// Where the order of two outer products matters, both orders end differently on vectors of ones, predicates of all bits, and a
+/// ZA just short of the 32-bit word's carry or borrow. Where it does not, they end alike on anything.
+#[test]
+fn both_orders() {
+    let mut ends = [[0; 2]; 5];
+    for seed in seeds(40_000) {
+        let random = &mut Random::new(seed);
+        let vb = random.pick(&LENGTHS);
+        let bench = Bench { flags: 15, streaming: true, za_on: true, vb };
+        let words = [(); 2].map(|()| sample::outer_product(random));
+        let matters = birdaghol::order_matters(15, words[0], words[1]);
+        let [z, p, start] = if matters {
+            let byte = if words.into_iter().any(narrow_subtracts) { 0x00 } else { 0xFF };
+            [vec![1; 32 * vb], vec![0xFF; 2 * vb], vec![byte; vb * vb]]
+        } else {
+            [32 * vb, 2 * vb, vb * vb].map(|length| random.bytes(length))
+        };
+
+        let [one, other] = [[0, 1], [1, 0]].map(|order| {
+            let mut za = start.clone();
+            for place in order {
+                birdaghol::execute(bench, &z, &p, &mut za, words[place]).expect("an outer product");
+            }
+            za
+        });
+        assert_eq!(one != other, matters, "seed {seed}: vb {vb}, words {:08x} and {:08x}", words[0], words[1]);
+        ends[vb.ilog2() as usize - 4][usize::from(matters)] += 1;
+    }
+    assert!(ends.iter().flatten().all(|&count| count >= 300), "too few pairs of a kind at a length: {ends:?}");
+}
+
+/// Whether a word is an outer product that subtracts from a 32-bit tile.
+fn narrow_subtracts(word: u32) -> bool {
+    let decoded = pseudocode::decode(15, word);
+    matches!(decoded, Ok(Instruction::Outer(OuterProduct { element_bytes: 4, subtract: true, .. })))
+}
+
 /// Runs a list on both sides: the number of words executed, and the refusal.
 fn run_both(seed: u64, case: &Case, words: &[u32]) -> (usize, Option<Refused>) {
     let before = words.to_vec();

@@ -1,7 +1,8 @@
 //! The bench examples of the rules, through the safe functions.
 
 use birdaghol::{
-    Bench, Ended, Instruction, Operation, Refusal, Source, decode, describe, encode, execute, print, read, run,
+    Bench, Ended, Instruction, Operation, Refusal, Source, decode, describe, encode, execute, order_matters, print,
+    read, run,
 };
 use std::array;
 
@@ -245,6 +246,25 @@ fn tiles_that_are_not_cleared() {
     let off = Bench { za_on: false, ..BENCH };
     assert_eq!(try_list(off, &[UMOPA]), Ended { count: 0, refusal: Some(Refusal::ZaOff) });
     assert_eq!(try_list(off, &[ZERO, UMOPA]), Ended { count: 0, refusal: Some(Refusal::ZaOff) });
+}
+
+#[test]
+fn orders_that_matter() {
+    // sumopa za3.s with umopa za7.d and sumopa za3.d, a 2-way form on za2.s with a quarter-tile one on za6.d
+    for (narrow, wide) in [(0xA0B9_D783, 0xA1FA_D2E7), (0xA0B9_D783, 0xA0EB_9DC3), (0xA181_1FEA, 0xA0E4_02CE)] {
+        assert!(order_matters(15, narrow, wide) && order_matters(15, wide, narrow), "{narrow:08x}, {wide:08x}");
+        assert!(!order_matters(1, narrow, wide) && !order_matters(16, narrow, wide), "{narrow:08x}, {wide:08x}");
+    }
+    // rows apart, one width, a ZERO, a word that is listed nowhere
+    for (first, second) in [
+        (0xA0B9_D783, 0xA0D6_7B12),
+        (0xA087_95B3, 0x800E_8393),
+        (0xA1FA_D2E7, 0xA1E6_011F),
+        (ZERO, 0xA1FA_D2E7),
+        (0xA0B9_D783, UNLISTED),
+    ] {
+        assert!(!order_matters(15, first, second) && !order_matters(15, second, first), "{first:08x}, {second:08x}");
+    }
 }
 
 #[test]

@@ -5,20 +5,13 @@
 ghost use mathlib.Core.Path.{_≡_};
 ghost use Rattle.checks.specs.Tally.{sum};
 ghost use Rattle.assemble.specs.Kernel.{lines, isSpace, isBlank, isComment, assembled, wordsAfter, refusedAfter, countOver};
+use checks::Input;
 use checks::one_if;
 use checks::plus;
 use isa::Refusal;
 use libc::STDERR_FILENO;
-use libc::STDIN_FILENO;
 use libc::STDOUT_FILENO;
 use reader::Reading;
-
-// Standard input: so many bytes, more than there is room for, or an input that can't be read to its end.
-pub enum Input {
-    Bytes(usize),
-    TooLong,
-    Unreadable,
-}
 
 // What comes of a line.
 pub enum Assembled {
@@ -36,7 +29,7 @@ pub struct Counts {
 
 fn main() {
     let mut text = checks::input_room();
-    match read_input(&mut text) {
+    match checks::read_input(&mut text) {
         Input::Bytes(n) => report(assemble(checks::first(&text, n))),
         Input::TooLong => {
             tell_number(b"the input has more bytes than ", checks::INPUT_ROOM as u64);
@@ -48,28 +41,6 @@ fn main() {
             report(none());
         }
     }
-}
-
-// Reads all of standard input to the start of room. A read that fails is no end: what came before it is not the kernel.
-fn read_input(room: &mut [u8]) -> Input {
-    let mut chunk = io::large_buffer();
-    let mut n = 0;
-    while n <= room.len() {
-        let got = libc::read(STDIN_FILENO, &mut chunk);
-        if got < 0 {
-            return Input::Unreadable;
-        }
-        let more = io::count(got, &chunk);
-        if more == 0 {
-            return Input::Bytes(n);
-        }
-        if room.len() - n < more {
-            return Input::TooLong;
-        }
-        bytes::copy(&chunk[..more], &mut room[n..]);
-        n += more;
-    }
-    Input::TooLong
 }
 
 fn none() -> Counts

@@ -1,4 +1,5 @@
-// The functions that C and Rust programs call. Each answers value * 65536 + missing * 256 + refusal.
+// The functions that C and Rust programs call. Each answers value * 65536 + missing * 256 + refusal, but for the last, which
+// answers a question.
 ghost use mathlib.Core.Path.{_≡_};
 ghost use mathlib.Core.Option.{none, some};
 ghost use mathlib.Core.Bool.{cond};
@@ -10,6 +11,7 @@ ghost use Rattle.text.specs.Printing.{roomAfter};
 ghost use Rattle.replay.specs.Machine.{on};
 ghost use Rattle.replay.specs.Execution.{after, outcomeRefusal};
 ghost use Rattle.replay.specs.Lists.{runLeft};
+ghost use Rattle.pairs.specs.Order.{orderMatters};
 ghost use Rattle.birdaghol.specs.Calls.{answer, decodeCall, printCall, readCall, sized, operation, predicatedCall, quarterCall, zeroCall, encodeCall, benchOf, executeCall, runCall};
 ghost use Rattle.birdaghol.specs.Fields.{operationNumbers, numbersOf, fieldCount, describeCall, fieldsAfter};
 use isa::Checked;
@@ -198,6 +200,15 @@ pub extern "C" fn birdaghol_run(
     let ended = replay::run(bench_of(flags, streaming, za_on, vb), z, p, za, words);
     let outcome = ended.outcome;
     ended.count as u64 * AT_VALUE + refusal_of(outcome)
+}
+
+// Whether the order of two words matters: both are outer products that decode accepts, and their tiles share rows and differ in
+// width.
+#[no_mangle]
+pub extern "C" fn birdaghol_order_matters(flags: u32, a: u32, b: u32) -> bool
+    ensures { λ r. ⌜ r ≡ orderMatters flags a b ⌝ }
+{
+    pairs::order_matters(flags, a, b)
 }
 
 // What the arguments say, as the kinds that they stand for.

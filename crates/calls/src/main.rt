@@ -6,6 +6,7 @@ use birdaghol::birdaghol_encode_predicated;
 use birdaghol::birdaghol_encode_quarter;
 use birdaghol::birdaghol_encode_zero;
 use birdaghol::birdaghol_execute;
+use birdaghol::birdaghol_order_matters;
 use birdaghol::birdaghol_print;
 use birdaghol::birdaghol_read;
 use birdaghol::birdaghol_run;
@@ -37,6 +38,7 @@ fn main() {
     executes(&z, &p);
     executes_two_way(&z, &p);
     runs(&z, &p);
+    orders();
 }
 
 fn decodes() {
@@ -272,6 +274,27 @@ fn runs(z: &[u8], p: &[u8]) {
         birdaghol_run(7, false, true, 16, z, p, &mut za, &words),
     );
     bytes(&za);
+}
+
+// Words on za3.s, za7.d, za3.d and za2.d: 32-bit tile t has the rows of 64-bit tiles t and t + 4.
+fn orders() {
+    order(b"za3.s, za7.d", 15, 0xA0B9_D783, 0xA1FA_D2E7);
+    order(b"za7.d, za3.s", 3, 0xA1FA_D2E7, 0xA0B9_D783);
+    order(b"za3.s, za3.d", 15, 0xA0B9_D783, 0xA0EB_9DC3);
+    order(b"za3.s, za2.d", 15, 0xA0B9_D783, 0xA0D6_7B12);
+    order(b"za3.d, za7.d", 15, 0xA0EB_9DC3, 0xA1FA_D2E7);
+    order(b"zero, za7.d", 15, ZERO_ALL, 0xA1FA_D2E7);
+    order(b"za3.s, za7.d, without i16i64", 1, 0xA0B9_D783, 0xA1FA_D2E7);
+    order(b"za3.s, za7.d, flags", 16, 0xA0B9_D783, 0xA1FA_D2E7);
+}
+
+fn order(name: &[u8], flags: u32, a: u32, b: u32) {
+    io::write_all(STDOUT_FILENO, name);
+    if birdaghol_order_matters(flags, a, b) {
+        io::write_all(STDOUT_FILENO, b": order matters\n");
+    } else {
+        io::write_all(STDOUT_FILENO, b": either order\n");
+    }
 }
 
 // An answer taken apart.

@@ -6,10 +6,6 @@ use lib.Dec.{eqb, ltb, leb}
 use Rattle.checks.specs.declared.Number.{Number}
 use Rattle.checks.specs.declared.Number.the-variants.{Value, Malformed}
 
--- the bytes that a program has for its input
-abbrev pub inputRoom : ℕ
-inputRoom = 4194304
-
 -- a hex digit's value, by the codes of 0 to 9, A to F and a to f; 16 for any other byte
 unfoldable pub digitOf : ℕ → ℕ
 digitOf b =

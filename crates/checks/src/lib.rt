@@ -1,5 +1,6 @@
-// What the programs share: reading numbers and fields of a text, a stream of bytes, and counts of compared lines and bytes.
+// What the programs share: their input, numbers and fields of a text, a stream of bytes, and counts of compared lines and bytes.
 mod counts;
+mod stdin;
 mod stream;
 mod text;
 
@@ -10,15 +11,23 @@ pub use counts::one_if;
 pub use counts::part;
 pub use counts::plus;
 pub use counts::report;
+pub use stdin::INPUT_ROOM;
+pub use stdin::input_room;
+pub use stdin::read_input;
 pub use stream::generate;
 pub use stream::next;
-pub use text::INPUT_ROOM;
 pub use text::digit_of;
 pub use text::field_end;
 pub use text::first;
 pub use text::hexadecimal_of;
-pub use text::input_room;
 pub use text::wide;
+
+// Standard input: so many bytes, more than there is room for, or an input that can't be read to its end.
+pub enum Input {
+    Bytes(usize),
+    TooLong,
+    Unreadable,
+}
 
 // How many lines have something to compare, at how many of these it agrees, and how many others are no comments.
 pub struct Tally {

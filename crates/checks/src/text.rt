@@ -1,20 +1,9 @@
 // Numbers and fields of a text.
 ghost use mathlib.Core.Path.{_≡_};
 ghost use Prim.Native.Nat.{_+_, _-_, _≤_};
-ghost use lib.ListN.{length, take, drop, replicate};
-ghost use Rattle.checks.specs.Text.{inputRoom, digitOf, hexadecimal, fieldLength};
+ghost use lib.ListN.{length, take, drop};
+ghost use Rattle.checks.specs.Text.{digitOf, hexadecimal, fieldLength};
 use crate::Number;
-
-// The bytes that a program has for its input: seven of the longest lists, a word being nine bytes of text.
-pub const INPUT_ROOM: usize = 4194304;
-
-// Room for it, as a function of its own: proofs take the array by its length, as it is too long to compute with.
-pub fn input_room() -> [u8; INPUT_ROOM]
-    ensures { λ r. ⌜ r ≡ replicate inputRoom 0 ⌝ }
-    ensures { λ r. ⌜ inputRoom ≡ length r ⌝ }
-{
-    [0; INPUT_ROOM]
-}
 
 // A hex digit's value, or 16 for a byte that is none.
 pub fn digit_of(byte: u8) -> u32

@@ -116,7 +116,7 @@ module _ (vb : ℕ) (l : Length vb) where
       → addTo 4 vb t f (addTo 8 vb u g za) ≡ addTo 8 vb u g (addTo 4 vb t f za)
   two-widths t u f g za k p = addTo-comm 4 8 vb vb t u f g za (sized narrow) (sized wide) (apart-widths t u (eqb-false (u % 4) t p)) k
 
-  add-comm : {E F : ℕ} → Width E → Width F → (t u : ℕ) (f g : ℕ → ℕ → ℤ) (za : List ℕ) → eqb E 4 && (eqb F 8 && eqb (u % 4) t) ≡ false
+  pub add-comm : {E F : ℕ} → Width E → Width F → (t u : ℕ) (f g : ℕ → ℕ → ℤ) (za : List ℕ) → eqb E 4 && (eqb F 8 && eqb (u % 4) t) ≡ false
       → eqb F 4 && (eqb E 8 && eqb (t % 4) u) ≡ false → Good vb vb za → addTo E vb t f (addTo F vb u g za) ≡ addTo F vb u g (addTo E vb t f za)
   add-comm narrow narrow t u f g za p q k = one-width narrow t u f g za k (ℕ-discrete t u)
   add-comm narrow wide t u f g za p q k = two-widths t u f g za k p

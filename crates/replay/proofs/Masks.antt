@@ -26,7 +26,7 @@ use Rattle.replay.specs.Lists.{nextTests}
 use Rattle.replay.proofs.Acts.{Width, narrow, wide}
 
 -- ---- a mask of all: test 14 refuses nothing
-all-rows : (r : ℕ) → masked 255 r ≡ true
+pub all-rows : (r : ℕ) → masked 255 r ≡ true
 all-rows r = below (λ k. eqb (255 / 2 ^ k % 2) 1) 8 (r % 8) refl (omega arith)
 
 all-cleared : (vb : ℕ) (n : Option TileName) → tileCleared vb (masked 255) n ≡ true
@@ -97,7 +97,7 @@ pub tile-rows : {E : ℕ} (t : ℕ) → Width E → t < E → (E ≤ 8) × ((t <
 tile-rows t narrow h = (omega arith, (omega arith, omega arith))
 tile-rows t wide h = (omega arith, (omega arith, omega arith))
 
-both-or : (a b : Bool) → (a ≡ true → b ≡ true) → (b ≡ true → a ≡ true) → a ≡ b
+pub both-or : (a b : Bool) → (a ≡ true → b ≡ true) → (b ≡ true → a ≡ true) → a ≡ b
 both-or true b f g = sym (f refl)
 both-or false true f g = g refl
 both-or false false f g = refl

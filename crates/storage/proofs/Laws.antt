@@ -1,5 +1,5 @@
 -- The laws of adding to a tile, on ZA, the list of its bytes. Assumes nothing.
-use mathlib.Core.Path.{_≡_, sym, ap, _∙_, fun-ext}
+use mathlib.Core.Path.{_≡_, sym, ap, ap₂, _∙_, fun-ext}
 use mathlib.Core.Logic.{_⊎_, inl, inr}
 use mathlib.Core.Bool.{false}
 use mathlib.Core.List.{List}
@@ -15,7 +15,7 @@ use borrow.Author.Tests.{eqb-false}
 use Rattle.storage.specs.Bytes.{at, word}
 use Rattle.storage.specs.Modulo.{plus}
 use Rattle.storage.specs.Tile.{start, element, inTile, addAt, addTo}
-use Rattle.storage.proofs.Bytes.{word-ext, word-lt}
+use Rattle.storage.proofs.Bytes.{word-ext, word-lt, word-append}
 use Rattle.storage.proofs.Changes.{Disjoint, Rows, length-change, at-change, change-ext, change-same, change-change, change-comm, in-row}
 use Rattle.storage.proofs.Tiles.{Sized, _⊕_, nil, negated, add-local, add-only, add-add, add-nil, add-bytes, word-in, row-of}
 
@@ -92,6 +92,17 @@ module _ (E vb n : ℕ) (s : Sized E vb) (t : ℕ) (f : ℕ → ℕ → ℤ) whe
 pub element-lt : (E vb t row col : ℕ) (za : List ℕ) → ((p : ℕ) → at za p < 256) → element E vb t za row col < 256 ^ E
 unfolding element
 element-lt E vb t row col za b = word-lt E (start E vb t row col) (at za) b
+
+-- an element of 64-bit tile u is two neighbours of the 32-bit tile that has its row, the low half first
+pub element-halves : (vb u row col : ℕ) (za : List ℕ)
+    → element 8 vb u za row col
+    ≡ element 4 vb (u % 4) za (2 * row + u / 4) (2 * col) + 256 ^ 4 * element 4 vb (u % 4) za (2 * row + u / 4) (2 * col + 1)
+unfolding element start
+element-halves vb u row col za =
+    let r : (2 * row + u / 4) * 4 + u % 4 ≡ row * 8 + u = omega arith in
+    let low : (row * 8 + u) * vb + col * 8 ≡ (row * 8 + u) * vb + 2 * col * 4 = omega arith in
+    let high : (row * 8 + u) * vb + col * 8 + 4 ≡ (row * 8 + u) * vb + (2 * col + 1) * 4 = omega arith in
+    rw r (word-append 4 4 (at za) ((row * 8 + u) * vb + col * 8) ∙ ap₂ (λ (p q : ℕ). word 4 (at za) p + 256 ^ 4 * word 4 (at za) q) low high)
 
 -- its number among all elements of ZA, cols to a row
 unfoldable pub num : ℕ → ℕ → ℕ → ℕ → ℕ → ℕ

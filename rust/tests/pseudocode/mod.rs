@@ -3,12 +3,14 @@
 
 mod execute;
 mod fields;
+mod order;
 mod read;
 mod text;
 mod tiles;
 
 pub use execute::{Bench, MOST_WORDS, execute, run};
 pub use fields::describe;
+pub use order::order_matters;
 pub use read::read;
 pub use text::print;
 pub use tiles::{NAMES, Name, shortest};

@@ -1,11 +1,11 @@
--- `assemble::read_input` is safe and ends: each read that gives bytes fills the room further, or finds it full. Assumes nothing.
+-- `checks::stdin::read_input` meets its contract, and ends: each read that gives bytes fills the room further, or finds it full. Assumes nothing.
 use mathlib.Core.Path.{_≡_}
 use Prim.Native.Nat.{_+_, _-_, _^_, _≤_, _<_}
 use native.Mathlib.Omega.{arith}
 use borrow.Author.Needs.{needs}
 use lib.ListN.{length}
-use Rattle.assemble.proofs.read_input.Statement.{statement}
-use Rattle.assemble.proofs.read_input.Tie as tie
+use Rattle.checks.proofs.stdin.read_input.Statement.{statement}
+use Rattle.checks.proofs.stdin.read_input.Tie as tie
 
 abbrev Inv-loop : tie.InvT-loop
 Inv-loop room₀ chunk₀ n₀ room chunk n = (length room ≡ length room₀) × (n ≤ length room) × (length chunk ≡ 65536) × (length room < 2 ^ 64)
@@ -28,7 +28,7 @@ read-input-spec =
     (λ c. omega arith)
     (λ c κs. tt)
     (λ c. omega arith)
-    (λ c. tt)
+    (λ c. omega arith)
     (λ c. omega arith)
     (λ c. omega arith)
     (λ c. tt)

@@ -1,0 +1,9 @@
+pub mod Below
+pub mod Tiles
+pub mod Known
+pub mod Carries
+pub mod Outers
+pub mod Orders
+pub mod Contents
+pub mod Theorems
+pub mod Examples
