@@ -20,8 +20,8 @@ use Rattle.replay.specs.Demand3.{Asked}
 use Rattle.pairs.specs.Order.{orderMatters}
 use Rattle.pairs.specs.Claims.{Bytes, NoneClash}
 use Rattle.pairs.proofs.Below.{below-some}
-use Rattle.pairs.proofs.Theorems.{decides, never-itself, any-order as in-any-order}
-use Rattle.order.specs.Pairs.{wordAt, pairedWith, anyPair, outerDecoded, isFixed, wordsFrom, stretch, AnyOrder}
+use Rattle.pairs.proofs.Theorems.{decides, never-itself, any-order}
+use Rattle.order.specs.Pairs.{wordAt, pairedWith, anyPair, outerDecoded, isFixed, wordsFrom, stretch, AnyOrderBetween}
 
 -- a word of a stretch has a place in it
 place : (f : ℕ → ℕ) (k v : ℕ) → List·Memᴰ v (wordsFrom f k) → (j : ℕ) × (j < k) × (v ≡ f j)
@@ -73,6 +73,6 @@ module _ (bytes : List ℕ) (n : ℕ) (none : anyPair bytes n ≡ false) where
         let (y, l, f) = place _ k w d in
         rw (e, f) (no-pair (i + x) (i + y) (omega arith) (omega arith))))
 
-pub any-order : (bytes : List ℕ) (n : ℕ) → AnyOrder bytes n
-any-order bytes n none whole i k fits free m e za os perm =
-    in-any-order m (stretch bytes i k) (asked bytes n none whole i k fits free m za) (rw e (none-clash bytes n none whole i k fits free)) os perm
+pub any-order-between : (bytes : List ℕ) (n : ℕ) → AnyOrderBetween bytes n
+any-order-between bytes n none whole i k fits free m e za os perm =
+    any-order m (stretch bytes i k) (asked bytes n none whole i k fits free m za) (rw e (none-clash bytes n none whole i k fits free)) os perm

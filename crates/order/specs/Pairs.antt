@@ -45,8 +45,8 @@ wordsFrom f (suc n) = f 0 ∷ wordsFrom (λ j. f (suc j)) n
 abbrev pub stretch : List ℕ → ℕ → ℕ → List ℕ
 stretch bytes i k = wordsFrom (λ j. wordAt bytes (i + j)) k
 
-abbrev pub AnyOrder : List ℕ → ℕ → Type 0
-AnyOrder bytes n =
+abbrev pub AnyOrderBetween : List ℕ → ℕ → Type 0
+AnyOrderBetween bytes n =
     anyPair bytes n ≡ false → Bytes bytes → (i k : ℕ) → i + k ≤ n → ((j : ℕ) → j < k → isFixed (wordAt bytes (i + j)) ≡ false)
     → (m : Machine) → m .bench .flags ≡ allFlags → Bytes (m .za)
     → (os : List ℕ) → List·Permᴰ (stretch bytes i k) os → played m (stretch bytes i k) ≡ played m os

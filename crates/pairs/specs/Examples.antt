@@ -48,35 +48,40 @@ abbrev pub answered : Example → Example
 answered e = asked (e .flags) (e .first) (e .second) (orderMatters (e .flags) (e .first) (e .second))
 
 -- ---- what both orders leave
-pub record Ends : Type 0 where
+pub record TwoEnds : Type 0 where
   pub narrow : ℕ
   pub wide : ℕ
   pub tile : ℕ
   pub narrow-first : ℕ
   pub wide-first : ℕ
 
-abbrev pub left : ℕ → ℕ → ℕ → ℕ → ℕ → Ends
+abbrev pub left : ℕ → ℕ → ℕ → ℕ → ℕ → TwoEnds
 left narrow wide tile x y = record { narrow = narrow; wide = wide; tile = tile; narrow-first = x; wide-first = y }
 
--- a 32-bit word brings 4 products of 1, or 2 of 257 · 257, a 64-bit word 4 of these: 4, or 132,098, and 264,196. Where the 32-bit
--- word adds, both halves start at 2^32 - 1, where it subtracts, at 0; in one order the 64-bit word carries or borrows, in the
--- other it does not.
-abbrev pub half : ℕ
-half = 2 ^ 32
+-- an element by its high and its low half, and n below 0 in one of them
+abbrev pub halves : ℕ → ℕ → ℕ
+halves high low = high * 2 ^ 32 + low
 
-abbrev pub ends : List Ends
+abbrev pub below0 : ℕ → ℕ
+below0 n = 2 ^ 32 - n
+
+-- a 32-bit word brings 4 products of 1, or 2 of 257 · 257, a 64-bit word 4 of these: 4, or 132,098, and 264,196. Both halves start
+-- at 2^32 - 1 where the 32-bit word adds, and at 0 where it subtracts. In one order the 64-bit word carries or borrows, in the
+-- other it does not.
+abbrev pub ends : List TwoEnds
 ends =
-    -- sumopa za3.s, umopa za7.d: 3 and 3, then 264,196 more; or 264,195, then 4 more in each half
-    left 0xA0B9D783 0xA1FAD2E7 7 (3 * half + 264199) (4 * half + 264199)
-    -- umopa za2.s (2-way), smops za2.d: 132,097 in each half, then 264,196 less; or 264,196 less, then 132,098 more in each
-    ∷ left 0xA1811FEA 0xA0D67B12 2 (132096 * half + (half - 132099)) (132097 * half + (half - 132099))
-    -- smop4s za3.s, sumopa za3.d: 2^32 - 4 in each half, then 264,196 more; or 264,196, then 4 less in each half
-    ∷ left 0x800E8393 0xA0EB9DC3 3 ((half - 3) * half + 264192) ((half - 4) * half + 264192)
-    -- smop4s za3.s (2-way), umop4s za7.d: 2^32 - 132,098 in each half, then 264,196 less; or 264,196 less, then 132,098 less in each
-    ∷ left 0x800083DB 0xA1E6011F 7 ((half - 132098) * half + (half - 396294)) ((half - 132099) * half + (half - 396294))
+    -- sumopa za3.s, umopa za7.d: 3 in each half, then 264,196 more; or 264,195 in all, then 4 more in each half
+    left 0xA0B9D783 0xA1FAD2E7 7 (halves 3 264199) (halves 4 264199)
+    -- umopa za2.s (2-way), smops za2.d: 132,097 in each half, then 264,196 less; or 264,197 below 0, then 132,098 more in each
+    ∷ left 0xA1811FEA 0xA0D67B12 2 (halves 132096 (below0 132099)) (halves 132097 (below0 132099))
+    -- smop4s za3.s, sumopa za3.d: 4 below 0 in each half, then 264,196 more; or 264,196 in all, then 4 less in each half
+    ∷ left 0x800E8393 0xA0EB9DC3 3 (halves (below0 3) 264192) (halves (below0 4) 264192)
+    -- smop4s za3.s (2-way), umop4s za7.d: 132,098 below 0 in each half, then 264,196 less; or 264,196 below 0, then 132,098 less in
+    -- each
+    ∷ left 0x800083DB 0xA1E6011F 7 (halves (below0 132098) (below0 396294)) (halves (below0 132099) (below0 396294))
     ∷ []
 
-abbrev pub bothLeft : Ends → Ends
+abbrev pub bothLeft : TwoEnds → TwoEnds
 bothLeft e =
     let m = telling (modesOn 15 16) (e .narrow) (e .wide) in
     left (e .narrow) (e .wide) (e .tile) (element 8 16 (e .tile) (inTurn m (e .narrow) (e .wide) .za) 0 0)
