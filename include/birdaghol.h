@@ -11,8 +11,8 @@
    room shorter than the text, or fewer fields than BIRDAGHOL_FIELDS; 13 a line that is no listed word's text; 14 in a
    list, an outer product on a tile with a row that no ZERO before it has cleared.
 
-   Every function but birdaghol_order_matters answers value * 65536 + missing * 256 + refusal, and BIRDAGHOL_VALUE, BIRDAGHOL_MISSING and
-   BIRDAGHOL_REFUSAL take it apart:
+   Every function but birdaghol_order_matters answers value * 65536 + missing * 256 + refusal, and BIRDAGHOL_VALUE,
+   BIRDAGHOL_MISSING and BIRDAGHOL_REFUSAL take it apart:
    - value: a length from birdaghol_print, a word from birdaghol_read and the encode functions, and how many words were
      executed from birdaghol_run. 0 from birdaghol_decode, birdaghol_describe and birdaghol_execute; 0 beside a refusal,
      but for birdaghol_run;
@@ -90,10 +90,10 @@ uint64_t birdaghol_run(uint32_t flags, bool streaming, bool za_on, size_t vb, co
                        const uint8_t *p, size_t p_len, uint8_t *za, size_t za_len, const uint32_t *words,
                        size_t words_len);
 
-/* Tells whether the order of two words matters: both are outer products that birdaghol_decode takes, and their tiles share
-   rows and differ in width. Then there are contents of z, p and za, at every vector length, on which the two orders end
-   differently; otherwise the order of two accepted outer products never changes za. No refusal: false for any other word,
-   and for flags above 15. */
+/* Tells whether the order of two words matters: both are outer products that birdaghol_decode takes, and their tiles
+   share rows and differ in width. Then there are contents of z, p and za, at every vector length, on which the two
+   orders end differently; otherwise the order of two accepted outer products never changes za. No refusal: false for
+   any other word, and for flags above 15. */
 bool birdaghol_order_matters(uint32_t flags, uint32_t a, uint32_t b);
 
 #ifdef __cplusplus

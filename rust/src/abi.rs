@@ -1,5 +1,5 @@
-//! The functions of the static library as C sees them: a buffer is its address and its length. Every answer that is a number is a
-//! value times 65536, plus the sum of the missing flags times 256, plus the refusal's number.
+//! The functions of the static library as C sees them: a buffer is its address and its length. Every answer that is a
+//! number is a value times 65536, plus the sum of the missing flags times 256, plus the refusal's number.
 
 /// The kinds of instructions, a description's first number.
 pub const PREDICATED: u32 = 1;

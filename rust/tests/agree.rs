@@ -295,8 +295,8 @@ fn order_matters() {
     assert!(answers.iter().all(|&count| count >= 50_000), "an answer is too rare: {answers:?}");
 }
 
-/// Where the order of two outer products matters, both orders end differently on vectors of ones, predicates of all bits, and a
-/// ZA just short of the 32-bit word's carry or borrow. Where it does not, they end alike on anything.
+/// Where the order of two outer products matters, both orders end differently on vectors of ones, predicates of all
+/// bits, and a ZA just short of the 32-bit word's carry or borrow. Where it does not, they end alike on random contents.
 #[test]
 fn both_orders() {
     let mut ends = [[0; 2]; 5];

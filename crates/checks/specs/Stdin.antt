@@ -1,4 +1,4 @@
--- Room for standard input, and how much of it a reading fills.
+-- Room for standard input, and what is told of how much was read.
 use Prim.Native.Nat.{ℕ, _≤_}
 use Rattle.checks.specs.declared.Input.{Input}
 use Rattle.checks.specs.declared.Input.the-variants.{Bytes, TooLong, Unreadable}
@@ -7,7 +7,7 @@ use Rattle.checks.specs.declared.Input.the-variants.{Bytes, TooLong, Unr
 abbrev pub inputRoom : ℕ
 inputRoom = 4194304
 
--- so many bytes as are told stand in a room of n
+-- no more bytes are told than a room of n has
 abbrev pub Fits : Input → ℕ → Type 0
 Fits (Bytes k) n = k ≤ n
 Fits TooLong n = Unit {0}

@@ -1,6 +1,6 @@
 // Names the pairs of outer products in a list whose order matters: words on standard input, as little-endian bytes. Where there is
-// none, any order gives the same ZA, as long as no word moves past a ZERO or a refused word, which are named first as fixed.
-// Every feature is on. A list may have 65,536 words, as for a run.
+// none, any order gives the same ZA, executed one at a time, as long as no word moves past a ZERO or a word that is not listed;
+// these are named first, as fixed. Every feature is on. A list may have 65,536 words, as for a run.
 ghost use mathlib.Core.Path.{_≡_};
 ghost use mathlib.Core.Bool.{not};
 ghost use mathlib.Core.Option.{some};
@@ -23,7 +23,7 @@ fn main() {
     let mut room = checks::input_room();
     match checks::read_input(&mut room) {
         Input::Bytes(n) => judge(checks::first(&room, n)),
-        Input::TooLong => refuse(b"the list has more than 65536 words"),
+        Input::TooLong => refuse_length(),
         Input::Unreadable => refuse(b"the input can't be read to its end"),
     }
 }
@@ -35,7 +35,7 @@ fn judge(bytes: &[u8]) {
         return;
     }
     if 4 * replay::MOST_WORDS < bytes.len() {
-        refuse(b"the list has more than 65536 words");
+        refuse_length();
         return;
     }
     let fixed = name_fixed_words(bytes);
@@ -47,8 +47,14 @@ fn judge(bytes: &[u8]) {
 }
 
 fn refuse(why: &[u8]) {
-    io::write_all(STDERR_FILENO, why);
-    io::write_all(STDERR_FILENO, b", and is not judged\n");
+    tell(why);
+    tell(b", and is not judged\n");
+}
+
+fn refuse_length() {
+    tell(b"the list has more words than ");
+    io::print_decimal(STDERR_FILENO, replay::MOST_WORDS as u64);
+    refuse(b"");
 }
 
 // What holds where no pair was named.
@@ -64,11 +70,12 @@ fn conclude(fixed: bool) {
 fn count_words(n: usize) {
     part(b"words judged: ", n as u64);
     if !io::write_all(STDOUT_FILENO, b"\n") {
-        io::write_all(STDERR_FILENO, b"standard output did not take all of this\n");
+        tell(b"standard output did not take all of this\n");
     }
 }
 
-// Names each pair whose order matters, and answers whether there is one.
+// Names each pair whose order matters, and answers whether there is one. What names a pair stands before `|`, so that it is done
+// in any case.
 fn name_pairs(bytes: &[u8]) -> bool
     ensures { λ r. ⌜ r ≡ anyPair (now (bytes .entry)) (length (now (bytes .entry)) / 4) ⌝ }
 {
@@ -198,4 +205,8 @@ fn write_place(i: usize) {
 
 fn write(text: &[u8]) {
     io::write_all(STDOUT_FILENO, text);
+}
+
+fn tell(text: &[u8]) {
+    io::write_all(STDERR_FILENO, text);
 }

@@ -43,7 +43,7 @@ use Rattle.pairs.proofs.Orders.{AllAre, orders-apart}
 
 -- ---- it doesn't matter: no rows shared, or one width
 
--- a 32-bit tile t and a 64-bit tile u that are not kept apart by their rows
+-- then they are no 32-bit tile t and 64-bit tile u that share rows, as add-comm asks
 unshared : {E F : ℕ} (t u vb : ℕ) → Length vb → Width E → Width F → u < F
     → (SharedRow vb (record { E = E; tile = t }) (record { E = F; tile = u }) → ⊥) ⊎ (E ≡ F) → eqb E 4 && (eqb F 8 && eqb (u % 4) t) ≡ false
 unshared t u vb l narrow narrow h d = refl

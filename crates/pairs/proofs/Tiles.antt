@@ -58,7 +58,7 @@ shared-back n k vb s = record { row = s .row; within = s .within; of-first = s .
 abbrev tile : ℕ → ℕ → TileName
 tile E t = record { E = E; tile = t }
 
--- what two widths below 8 have in common, by trying all
+-- of tiles of two widths, by trying all numbers
 abbrev agrees : ℕ → ℕ → ℕ → ℕ → Bool
 agrees E F t u = Bool·beq (shareRows (tile E t) (tile F u)) (eqb (t % 4) (u % 4))
 

@@ -25,6 +25,7 @@ pub fn order_matters(flags: u32, a: u32, b: u32) -> bool
     }
 }
 
+// By the tile that the first instruction names; a ZERO names none.
 fn instructions_clash(i: Instruction, j: Instruction) -> bool
     requires { ⌜ (inRange i ≡ true) × (inRange j ≡ true) ⌝ }
     ensures { λ r. ⌜ r ≡ clash (tileNamed (some i)) (tileNamed (some j)) ⌝ }
@@ -48,7 +49,7 @@ fn instructions_clash(i: Instruction, j: Instruction) -> bool
     }
 }
 
-// Tile t of one outer product, with another instruction.
+// By the tile that the other instruction names, beside tile t of the first.
 fn tile_clashes(op: Operation, t: Tile, j: Instruction) -> bool
     requires { ⌜ (t .0 < elementBytes op) × (inRange j ≡ true) ⌝ }
     ensures { λ r. ⌜ r ≡ clash (some (record { E = elementBytes op; tile = t .0 })) (tileNamed (some j)) ⌝ }

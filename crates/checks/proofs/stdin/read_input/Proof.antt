@@ -1,4 +1,5 @@
--- `checks::stdin::read_input` meets its contract, and ends: each read that gives bytes fills the room further, or finds it full. Assumes nothing.
+-- `checks::stdin::read_input` meets its contract, and ends: each read that gives bytes fills the room further, or finds it full.
+-- Assumes nothing.
 use mathlib.Core.Path.{_≡_}
 use Prim.Native.Nat.{_+_, _-_, _^_, _≤_, _<_}
 use native.Mathlib.Omega.{arith}
