@@ -93,7 +93,7 @@ uint64_t birdaghol_run(uint32_t flags, bool streaming, bool za_on, size_t vb, co
 /* Tells whether the order of two words matters: both are outer products that birdaghol_decode takes, and their tiles
    share rows and differ in width. Then there are contents of z, p and za, at every vector length, on which the two
    orders end differently; otherwise the order of two accepted outer products never changes za. No refusal: false for
-   any other word, and for flags above 15. */
+   any other word, of whose order it says nothing, a ZERO's too, and for flags above 15. */
 bool birdaghol_order_matters(uint32_t flags, uint32_t a, uint32_t b);
 
 #ifdef __cplusplus

@@ -182,7 +182,8 @@ pub fn run(bench: Bench, z: &[u8], p: &[u8], za: &mut [u8], words: &[u32]) -> En
 /// Tells whether the order of two words matters: both are outer products, listed and with their features on, and their
 /// tiles share rows and differ in width. Then there are contents of Z, P and ZA, at every vector length, on which the two
 /// orders end differently; otherwise the order of two accepted outer products never changes ZA. False for any other word,
-/// and for flags above 15. 32-bit tile t has the rows of 64-bit tiles t and t + 4.
+/// of whose order it says nothing, a ZERO's too, and for flags above 15. 32-bit tile t has the rows of 64-bit tiles t and
+/// t + 4.
 #[inline]
 #[must_use]
 pub fn order_matters(flags: u32, a: u32, b: u32) -> bool {

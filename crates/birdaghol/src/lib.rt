@@ -1,5 +1,4 @@
-// The functions that C and Rust programs call. Each answers value * 65536 + missing * 256 + refusal, but for the last, which
-// answers a question.
+// The functions that C and Rust programs call. Each but birdaghol_order_matters answers value * 65536 + missing * 256 + refusal.
 ghost use mathlib.Core.Path.{_≡_};
 ghost use mathlib.Core.Option.{none, some};
 ghost use mathlib.Core.Bool.{cond};

@@ -289,11 +289,12 @@ fn orders() {
 }
 
 fn order(name: &[u8], flags: u32, a: u32, b: u32) {
+    io::write_all(STDOUT_FILENO, b"order matters, ");
     io::write_all(STDOUT_FILENO, name);
     if birdaghol_order_matters(flags, a, b) {
-        io::write_all(STDOUT_FILENO, b": order matters\n");
+        io::write_all(STDOUT_FILENO, b": true\n");
     } else {
-        io::write_all(STDOUT_FILENO, b": either order\n");
+        io::write_all(STDOUT_FILENO, b": false\n");
     }
 }
 

@@ -1,9 +1,11 @@
 -- What `order` finds in a list of words: pairs whose order matters, and words that stay where they are. Every feature is on.
 use mathlib.Core.Path.{_≡_}
-use mathlib.Core.Bool.{Bool, false, not}
-use mathlib.Core.List.{List, [], _∷_, List·Permᴰ}
+use mathlib.Core.Bool.{Bool, true, false, not, cond}
+use mathlib.Core.List.{List, [], _∷_, _++_, List·Mem, List·Permᴰ}
 use mathlib.Core.Option.{some}
-use Prim.Native.Nat.{ℕ, zero, suc, _+_, _*_, _≤_, _<_}
+use Prim.Native.Nat.{ℕ, zero, suc, _*_, _/_, _%_}
+use lib.Dec.{eqb, ltb}
+use lib.ListN.{length}
 use Rattle.isa.specs.Table.{allFlags}
 use Rattle.isa.specs.Answers.{decodeOf}
 use Rattle.isa.specs.declared.Decoded.{Decoded}
@@ -11,9 +13,11 @@ use Rattle.isa.specs.declared.Decoded.the-variants.{Accepted, Refused}
 use Rattle.storage.specs.Bytes.{at, word}
 use Rattle.replay.specs.Machine.{Machine}
 use Rattle.replay.specs.Instructions.{isOuter}
-use Rattle.replay.specs.Lists.{played}
+use Rattle.replay.specs.Lists.{played, mostWords}
 use Rattle.pairs.specs.Order.{someBelow, orderMatters}
 use Rattle.pairs.specs.Claims.{Bytes}
+use Rattle.order.specs.declared.Verdict.{Verdict}
+use Rattle.order.specs.declared.Verdict.the-variants.{NotWords, TooLong, OrderMatters, AnyOrder, AnyOrderBetween}
 
 -- word i of the input, its lowest byte first
 abbrev pub wordAt : List ℕ → ℕ → ℕ
@@ -37,16 +41,43 @@ isFixed w = not (outerDecoded (decodeOf allFlags w))
 abbrev pub anyFixed : List ℕ → ℕ → Bool
 anyFixed bytes n = someBelow (λ i. isFixed (wordAt bytes i)) n
 
--- ---- what is said where no pair is found: words between fixed ones, k of them from word i on, give the same ZA in any order
+-- ---- what is said of a list
+abbrev pub countIn : List ℕ → ℕ
+countIn bytes = length bytes / 4
+
+abbrev pub endsInAWord : List ℕ → Bool
+endsInAWord bytes = not (eqb (length bytes % 4) 0)
+
+abbrev pub isTooLong : List ℕ → Bool
+isTooLong bytes = ltb (4 * mostWords) (length bytes)
+
+-- by these two, in this order, then by whether there is a pair, and a fixed word
+abbrev pub verdict : Bool → Bool → Bool → Bool → Verdict
+verdict broken long paired fixed = cond broken NotWords (cond long TooLong (cond paired OrderMatters (cond fixed AnyOrderBetween AnyOrder)))
+
+abbrev pub verdictOf : List ℕ → Verdict
+verdictOf bytes = verdict (endsInAWord bytes) (isTooLong bytes) (anyPair bytes (countIn bytes)) (anyFixed bytes (countIn bytes))
+
+-- ---- what it means: the list in another order leaves the same, from any ZA, executed one at a time
 abbrev pub wordsFrom : (ℕ → ℕ) → ℕ → List ℕ
 wordsFrom f zero = []
 wordsFrom f (suc n) = f 0 ∷ wordsFrom (λ j. f (suc j)) n
 
-abbrev pub stretch : List ℕ → ℕ → ℕ → List ℕ
-stretch bytes i k = wordsFrom (λ j. wordAt bytes (i + j)) k
+abbrev pub words : List ℕ → List ℕ
+words bytes = wordsFrom (wordAt bytes) (countIn bytes)
 
-abbrev pub AnyOrderBetween : List ℕ → ℕ → Type 0
-AnyOrderBetween bytes n =
-    anyPair bytes n ≡ false → Bytes bytes → (i k : ℕ) → i + k ≤ n → ((j : ℕ) → j < k → isFixed (wordAt bytes (i + j)) ≡ false)
-    → (m : Machine) → m .bench .flags ≡ allFlags → Bytes (m .za)
-    → (os : List ℕ) → List·Permᴰ (stretch bytes i k) os → played m (stretch bytes i k) ≡ played m os
+abbrev pub SameEnd : List ℕ → List ℕ → Type 0
+SameEnd ws os = (m : Machine) → m .bench .flags ≡ allFlags → Bytes (m .za) → played m ws ≡ played m os
+
+abbrev pub NoneFixed : List ℕ → Type 0
+NoneFixed ws = (w : ℕ) → List·Mem w ws → isFixed w ≡ false
+
+-- any order that moves no word past a fixed one
+pub data Rearranged : List ℕ → List ℕ → Type 0 where
+  last : (ws os : List ℕ) → NoneFixed ws → List·Permᴰ ws os → Rearranged ws os
+  past : (ws os : List ℕ) → NoneFixed ws → List·Permᴰ ws os → (w : ℕ) → isFixed w ≡ true → (vs us : List ℕ) → Rearranged vs us
+      → Rearranged (ws ++ (w ∷ vs)) (os ++ (w ∷ us))
+
+pub record Means (bytes : List ℕ) : Type 0 where
+  pub any-order : verdictOf bytes ≡ AnyOrder → (os : List ℕ) → List·Permᴰ (words bytes) os → SameEnd (words bytes) os
+  pub between-fixed : verdictOf bytes ≡ AnyOrderBetween → (os : List ℕ) → Rearranged (words bytes) os → SameEnd (words bytes) os

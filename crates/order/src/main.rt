@@ -9,7 +9,7 @@ ghost use lib.ListN.{length};
 ghost use Rattle.isa.specs.Table.{allFlags};
 ghost use Rattle.replay.specs.Instructions.{isOuter};
 ghost use Rattle.pairs.specs.Order.{someBelow, orderMatters};
-ghost use Rattle.order.specs.Pairs.{wordAt, pairedWith, anyPair, isFixed, anyFixed};
+ghost use Rattle.order.specs.Pairs.{wordAt, pairedWith, anyPair, isFixed, anyFixed, countIn, verdictOf};
 use checks::Input;
 use checks::part;
 use isa::Decoded;
@@ -19,50 +19,65 @@ use libc::STDERR_FILENO;
 use libc::STDOUT_FILENO;
 use text::Printed;
 
+// What is said of a list.
+pub enum Verdict {
+    NotWords,
+    TooLong,
+    OrderMatters,
+    AnyOrder,
+    AnyOrderBetween,
+}
+
 fn main() {
     let mut room = checks::input_room();
     match checks::read_input(&mut room) {
-        Input::Bytes(n) => judge(checks::first(&room, n)),
-        Input::TooLong => refuse_length(),
-        Input::Unreadable => refuse(b"the input can't be read to its end"),
+        Input::Bytes(n) => {
+            let bytes = checks::first(&room, n);
+            pronounce(judge(bytes), bytes.len() / 4);
+        }
+        Input::TooLong => pronounce(Verdict::TooLong, 0),
+        Input::Unreadable => tell(b"the input can't be read to its end, and is not judged\n"),
     }
 }
 
-// A list of whole words, not longer than a run's.
-fn judge(bytes: &[u8]) {
+// Judges a list of whole words, not longer than a run's; its fixed words and its pairs are named on the way.
+fn judge(bytes: &[u8]) -> Verdict
+    ensures { λ r. ⌜ r ≡ verdictOf (now (bytes .entry)) ⌝ }
+{
     if bytes.len() % 4 != 0 {
-        refuse(b"the input ends in the middle of a word");
-        return;
+        return Verdict::NotWords;
     }
     if 4 * replay::MOST_WORDS < bytes.len() {
-        refuse_length();
-        return;
+        return Verdict::TooLong;
     }
     let fixed = name_fixed_words(bytes);
-    let paired = name_pairs(bytes);
-    if !paired {
-        conclude(fixed);
+    if name_pairs(bytes) {
+        return Verdict::OrderMatters;
     }
-    count_words(bytes.len() / 4);
-}
-
-fn refuse(why: &[u8]) {
-    tell(why);
-    tell(b", and is not judged\n");
-}
-
-fn refuse_length() {
-    tell(b"the list has more words than ");
-    io::print_decimal(STDERR_FILENO, replay::MOST_WORDS as u64);
-    refuse(b"");
-}
-
-// What holds where no pair was named.
-fn conclude(fixed: bool) {
     if fixed {
-        write(b"any order that moves no word past a fixed one gives the same ZA\n");
-    } else {
-        write(b"any order gives the same ZA\n");
+        return Verdict::AnyOrderBetween;
+    }
+    Verdict::AnyOrder
+}
+
+// What the verdict says beside the pairs that were named.
+fn pronounce(verdict: Verdict, words: usize) {
+    match verdict {
+        Verdict::NotWords => tell(b"the input ends in the middle of a word, and is not judged\n"),
+        Verdict::TooLong => {
+            tell(b"the list has more words than ");
+            io::print_decimal(STDERR_FILENO, replay::MOST_WORDS as u64);
+            tell(b", and is not judged\n");
+        }
+        Verdict::OrderMatters => count_words(words),
+        Verdict::AnyOrder => {
+            write(b"any order gives the same ZA\n");
+            count_words(words);
+        }
+        Verdict::AnyOrderBetween => {
+            write(b"any order that moves no word past a fixed one gives the same ZA\n");
+            count_words(words);
+        }
     }
 }
 
@@ -77,7 +92,7 @@ fn count_words(n: usize) {
 // Names each pair whose order matters, and answers whether there is one. What names a pair stands before `|`, so that it is done
 // in any case.
 fn name_pairs(bytes: &[u8]) -> bool
-    ensures { λ r. ⌜ r ≡ anyPair (now (bytes .entry)) (length (now (bytes .entry)) / 4) ⌝ }
+    ensures { λ r. ⌜ r ≡ anyPair (now (bytes .entry)) (countIn (now (bytes .entry))) ⌝ }
 {
     let mut found = false;
     let mut i = 0;
@@ -119,7 +134,7 @@ fn name_pair(j: usize, earlier: u32, i: usize, later: u32) -> bool
 
 // Names each word that stays where it is, and answers whether there is one.
 fn name_fixed_words(bytes: &[u8]) -> bool
-    ensures { λ r. ⌜ r ≡ anyFixed (now (bytes .entry)) (length (now (bytes .entry)) / 4) ⌝ }
+    ensures { λ r. ⌜ r ≡ anyFixed (now (bytes .entry)) (countIn (now (bytes .entry))) ⌝ }
 {
     let mut found = false;
     let mut i = 0;

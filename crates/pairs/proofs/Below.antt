@@ -1,15 +1,11 @@
 -- A test of some number below a bound. Assumes nothing.
 use mathlib.Core.Path.{_≡_, refl}
-use mathlib.Core.Bool.{Bool, true, false, false≢true, _||_}
+use mathlib.Core.Bool.{Bool, true, false, false≢true, _||_, or-true}
 use Prim.Native.Nat.{ℕ, zero, suc, _<_}
 use native.Mathlib.Omega.{arith}
 use lib.Dec.{eqb}
 use borrow.Author.Tests.{eqb-true, eqb-false}
 use Rattle.pairs.specs.Order.{someBelow}
-
-or-true : (a : Bool) → a || true ≡ true
-or-true true = refl
-or-true false = refl
 
 pub below-some : (f : ℕ → Bool) (n k : ℕ) → k < n → f k ≡ true → someBelow f n ≡ true
 below-some f zero k h t = absurd (omega arith)

@@ -2,14 +2,16 @@
 -- right sizes. Assumes nothing.
 use mathlib.Core.Path.{_≡_}
 use mathlib.Core.Bool.{Bool, true, false, cond, _||_}
-use Prim.Native.Nat.{ℕ, _<_}
+use Prim.Native.Nat.{ℕ, _≤_, _<_}
 use native.Mathlib.Omega.{arith}
 use native.Mathlib.Decide.{decLt}
 use lib.Dec.{lit<}
 use lib.ListN.{replicate, length-replicate, getD-replicate, List·getD-eq-default}
+use Rattle.isa.specs.Table.{allFlags}
 use Rattle.isa.specs.Answers.{describe}
 use Rattle.storage.specs.Bytes.{at}
-use Rattle.storage.specs.Sizes.{zSize, pSize, zaSize}
+use Rattle.storage.specs.Sizes.{legal, zSize, pSize, zaSize}
+use Rattle.replay.specs.declared.Bench.{Bench}
 use Rattle.replay.specs.Machine.{Machine}
 use Rattle.replay.specs.Instructions.{outerOf}
 use Rattle.replay.specs.Execution.{refusalOf}
@@ -36,14 +38,18 @@ start-byte a b = go (takesAway (outerOf (describe a)) || takesAway (outerOf (des
     go true = lit< tt
     go false = lit< tt
 
+-- they pass 1 to 5 on every bench with legal flags and length
+pub telling-fits : (bench : Bench) (a b : ℕ) → bench .flags ≤ allFlags → legal (bench .vb) ≡ true → BenchPasses (telling bench a b)
+telling-fits bench a b f l = record {
+  flags = f;
+  length-legal = l;
+  z-size = length-replicate {A = ℕ} (zSize (bench .vb)) 1;
+  p-size = length-replicate {A = ℕ} (pSize (bench .vb)) 255;
+  za-size = length-replicate {A = ℕ} (zaSize (bench .vb)) (startByte a b);
+}
+
 pub told-same : (m : Machine) (a b w : ℕ) → BenchPasses m → refusalOf (telling (m .bench) a b) w ≡ refusalOf m w
 unfolding refusalOf
 told-same m a b w f =
-    rw (
-      length-replicate {A = ℕ} (zSize (m .bench .vb)) 1,
-      length-replicate {A = ℕ} (pSize (m .bench .vb)) 255,
-      length-replicate {A = ℕ} (zaSize (m .bench .vb)) (startByte a b),
-      f .z-size,
-      f .p-size,
-      f .za-size,
-    )
+    let t = telling-fits (m .bench) a b (f .flags) (f .length-legal) in
+    rw (t .z-size, t .p-size, t .za-size, f .z-size, f .p-size, f .za-size)

@@ -37,7 +37,7 @@ element-filled {E} {vb} t row col y s za k i h = word-filled E y _ za (λ j l. h
 
 -- ---- by the shape of the 32-bit word
 module _ (vb : ℕ) (l : Length vb) (z p za : List ℕ) (good : Good vb vb za) (ones : AllAre 1 z) (set : AllAre 255 p) where
-  module _ {K : ℕ} (o w : OuterProduct) (so : Shaped 4 K) (sw : Shaped 8 4) (ro : Ready 4 vb o z p) (ready-w : Ready 8 vb w z p)
+  module _ {K : ℕ} (o w : OuterProduct) (so : Shaped 4 K) (sw : Shaped 8 4) (ready-o : Ready 4 vb o z p) (ready-w : Ready 8 vb w z p)
       (e : w .tile .0 % 4 ≡ o .tile .0) (full : AllAre (cond (o .subtract) 0 255) za) where
     abbrev t : ℕ
     t = o .tile .0
@@ -61,7 +61,7 @@ module _ (vb : ℕ) (l : Length vb) (z p za : List ℕ) (good : Good vb vb za) (
     narrow-held col k = element-filled t (u / 4) col y (sized4 vb l) za good (in-narrow vb t u l e h col k) full
 
     narrow-sum : (col : ℕ) → col < 2 → f (u / 4) col ≡ knownSum 4 K (o .subtract)
-    narrow-sum col k = sum-known so o z p ro ones set (u / 4) col (omega (arith, h)) (omega arith)
+    narrow-sum col k = sum-known so o z p ready-o ones set (u / 4) col (omega (arith, h)) (omega arith)
 
     wide-sum : g 0 0 ≡ knownSum 8 4 (w .subtract)
     wide-sum = sum-known sw w z p ready-w ones set 0 0 (omega arith) (omega arith)
@@ -92,6 +92,6 @@ module _ (vb : ℕ) (l : Length vb) (z p za : List ℕ) (good : Good vb vb za) (
       → w .tile .0 % 4 ≡ o .tile .0 → AllAre (cond (o .subtract) 0 255) za
       → addTo F vb (w .tile .0) (dot F L vb w z p) (addTo E vb (o .tile .0) (dot E K vb o z p) za)
       ≢ addTo E vb (o .tile .0) (dot E K vb o z p) (addTo F vb (w .tile .0) (dot F L vb w z p) za)
-  orders-apart o w so sw ro ready-w n e s full =
+  orders-apart o w so sw ready-o ready-w n e s full =
       let (x, k) = of-eight sw e in
-      rw (n, e, k) (apart o w (rw n at so) (rw (e, k) at sw) (rw n at ro) (rw e at ready-w) s full (products-narrow so n))
+      rw (n, e, k) (apart o w (rw n at so) (rw (e, k) at sw) (rw n at ready-o) (rw e at ready-w) s full (products-narrow so n))

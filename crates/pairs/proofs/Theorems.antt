@@ -1,16 +1,16 @@
 -- When the order of two accepted outer products matters, and that the function decides it: the claims of specs/Claims.antt hold
 -- for every pair of words. Assumes nothing.
 use mathlib.Core.Path.{_≡_, refl, sym, ap, _∙_, subst}
-use mathlib.Core.Bool.{Bool, true, false, false≢true, not, _&&_}
+use mathlib.Core.Bool.{Bool, true, false, false≢true, not, _&&_, or-false}
 use mathlib.Core.Logic.{_≢_, _⊎_, inl, inr}
 use mathlib.Core.List.{List}
 use mathlib.Core.Option.{Option, none, some}
 use Prim.Native.Nat.{ℕ, _%_, _<_}
 use native.Mathlib.Omega.{arith}
 use lib.Dec.{eqb, lit<}
-use lib.ListN.{length-replicate}
 use borrow.Author.Tests.{eqb-true, eqb-false, ne-eqb, not-true}
 use Rattle.isa.specs.Answers.{describe, decodeOf, decodedNumber, decodeNumber}
+use Rattle.isa.specs.declared.Refusal.{Refusal}
 use Rattle.isa.specs.declared.Decoded.{Decoded}
 use Rattle.isa.specs.declared.Decoded.the-variants.{Accepted, Refused}
 use Rattle.isa.specs.declared.Instruction.{Instruction}
@@ -25,12 +25,11 @@ use Rattle.storage.proofs.Laws.{Good}
 use Rattle.storage.proofs.Sizes.{Length, legal-length, za-good}
 use Rattle.replay.specs.Machine.{Machine, withZa}
 use Rattle.replay.specs.Instructions.{isOuter, TileName, tileNamed, isTile}
-use Rattle.isa.specs.declared.Refusal.{Refusal}
 use Rattle.replay.specs.Execution.{refusalOf, none?, accepted, outcome, outcomeNumber}
 use Rattle.replay.specs.Claims.{BenchPasses}
 use Rattle.replay.specs.Demand3.{Apart}
 use Rattle.replay.proofs.Acts.{Width, narrow, wide, add-comm}
-use Rattle.replay.proofs.Masks.{or-false, both-or}
+use Rattle.replay.proofs.Masks.{both-or}
 use Rattle.replay.proofs.Links.{element-width, named-tile}
 use Rattle.replay.proofs.Demand3.{demand3}
 use Rattle.replay.proofs.Theorems.{needs-modes}
@@ -38,7 +37,7 @@ use Rattle.pairs.specs.Order.{inTurn, shareRows, clash, tileDecoded, ord
 use Rattle.pairs.specs.Claims.{Bytes, Outers, BothAccepted, SharedRow, SameWidth, TellsApart, WhenOrderMatters, Clashing, Decides, AnyOrder}
 use Rattle.pairs.proofs.Tiles.{shared-rows, rows-shared, narrow-of, shared-by, shared-back}
 use Rattle.pairs.proofs.Outers.{bench-passes, tileOf, Outer, outer-word, addition, in-turn}
-use Rattle.pairs.proofs.Contents.{all-are, are-bytes, start-byte, told-same}
+use Rattle.pairs.proofs.Contents.{all-are, are-bytes, start-byte, telling-fits, told-same}
 use Rattle.pairs.proofs.Orders.{AllAre, orders-apart}
 
 -- ---- it doesn't matter: no rows shared, or one width
@@ -130,10 +129,11 @@ module _ (m : Machine) (a b : ℕ) (n k : TileName) (outers : Outers a b n k) (a
       let x = outer-word there a (there-accepts .0) (outers .outer .0) in
       let y = outer-word there b (there-accepts .1) (outers .outer .1) in
       let bytes = are-bytes (zaSize v) (startByte a b) (start-byte a b) in
+      let f = bench-passes there a (there-accepts .0) in
       record {
-        z-size = length-replicate {A = ℕ} (zSize v) 1;
-        p-size = length-replicate {A = ℕ} (pSize v) 255;
-        za-size = length-replicate {A = ℕ} (zaSize v) (startByte a b);
+        z-size = f .z-size;
+        p-size = f .p-size;
+        za-size = f .za-size;
         bytes = (are-bytes (zSize v) 1 (lit< tt), are-bytes (pSize v) 255 (lit< tt), bytes);
         both = there-accepts;
         differ =
@@ -197,6 +197,10 @@ zero-accepted : (o : Option Refusal) → outcomeNumber (outcome o) ≡ 0 → non
 zero-accepted none h = refl
 zero-accepted (some r) h = absurd (omega (arith, number-positive r))
 
+-- what is accepted decode accepts
+decoded : (m : Machine) (w : ℕ) → accepted m w ≡ true → decodeNumber (m .bench .flags) w ≡ 0
+decoded m w h = needs-modes m w .accepts .0 (accepted-zero (refusalOf m w) h) .0 .1
+
 module _ (flags a b : ℕ) where
   module _ (vb : ℕ) (l : legal vb ≡ true) where
     clashing : orderMatters flags a b ≡ true → Clashing flags vb a b
@@ -224,13 +228,7 @@ module _ (flags a b : ℕ) where
     -- both modes on: what decode accepts is accepted
     on-bench : (w : ℕ) → decodeNumber flags w ≡ 0 → accepted (telling (modesOn flags vb) a b) w ≡ true
     on-bench w p =
-        let passes : BenchPasses (telling (modesOn flags vb) a b) = record {
-          flags = decodes flags w .accepts .0 p .0;
-          length-legal = l;
-          z-size = length-replicate {A = ℕ} (zSize vb) 1;
-          p-size = length-replicate {A = ℕ} (pSize vb) 255;
-          za-size = length-replicate {A = ℕ} (zaSize vb) (startByte a b);
-        } in
+        let passes = telling-fits (modesOn flags vb) a b (decodes flags w .accepts .0 p .0) l in
         zero-accepted (refusalOf (telling (modesOn flags vb) a b) w) (needs-modes (telling (modesOn flags vb) a b) w .accepts .1 ((passes, p), (λ o. refl), refl))
 
     told : orderMatters flags a b ≡ true → TellsApart (telling (modesOn flags vb) a b) a b
@@ -243,13 +241,10 @@ module _ (flags a b : ℕ) where
       → (n k : TileName) → Outers a b n k → inTurn m a b ≡ inTurn m b a
   settled h m e (p, q) bytes n k outers = order m a b n k outers (p, q) .never (go (eqb (n .E) (k .E)) refl) bytes
     where
-      by-decode : (w : ℕ) → accepted m w ≡ true → decodeNumber flags w ≡ 0
-      by-decode w i = rw e at (needs-modes m w .accepts .0 (accepted-zero (refusalOf m w) i) .0 .1)
-
       go : (c : Bool) → eqb (n .E) (k .E) ≡ c → (SharedRow (m .bench .vb) n k → ⊥) ⊎ SameWidth n k
       go true t = inr (eqb-true _ _ t)
       go false t = inl (λ s. false≢true (sym h ∙ clashes (m .bench .vb) (bench-passes m a p .length-legal) (record {
-        accepts = (by-decode a p, by-decode b q);
+        accepts = (rw e at (decoded m a p), rw e at (decoded m b q));
         n = n;
         k = k;
         outers = outers;
@@ -307,11 +302,9 @@ any-order m ws asked none-clash os perm = demand3 m ws asked .order apart os per
         let f = bench-passes m (x .word) (x .accepts) in
         let vb = m .bench .vb in
         let l = legal-length vb (f .length-legal) in
-        let i = needs-modes m (x .word) .accepts .0 (accepted-zero (refusalOf m (x .word)) (x .accepts)) .0 .1 in
-        let j = needs-modes m (y .word) .accepts .0 (accepted-zero (refusalOf m (y .word)) (y .accepts)) .0 .1 in
         let s = shared-by t u vb l (named-tile 8 u (y .word) (asked .words (y .word) (y .listed)) (y .names)) e in
         false≢true (sym (none-clash (x .word) (y .word) (x .listed) (y .listed)) ∙ clashes (m .bench .flags) (x .word) (y .word) vb (f .length-legal) (record {
-          accepts = (i, j);
+          accepts = (decoded m (x .word) (x .accepts), decoded m (y .word) (y .accepts));
           n = record { E = 4; tile = t };
           k = record { E = 8; tile = u };
           outers = record { outer = (asked .outer (x .word) (x .listed) (x .accepts), asked .outer (y .word) (y .listed) (y .accepts)); names = (p, q) };

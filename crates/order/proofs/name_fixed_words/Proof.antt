@@ -2,19 +2,18 @@
 use mathlib.Core.Path.{_≡_, refl, ap, _∙_}
 use mathlib.Core.Bool.{Bool}
 use mathlib.Core.List.{List}
-use Prim.Native.Nat.{ℕ, _-_, _/_, _≤_}
+use Prim.Native.Nat.{ℕ, _-_, _≤_}
 use native.Mathlib.Omega.{arith}
-use lib.ListN.{length}
-use Rattle.order.specs.Pairs.{wordAt, isFixed, anyFixed}
+use Rattle.order.specs.Pairs.{wordAt, isFixed, anyFixed, countIn}
 use Rattle.order.proofs.Turns.{turn, at-end}
 use Rattle.order.proofs.name_fixed_words.Statement.{statement}
 use Rattle.order.proofs.name_fixed_words.Tie as tie
 
 abbrev Inv-loop : tie.InvT-loop
-Inv-loop bytes found₀ i₀ found i = (i ≤ length bytes / 4) × (found ≡ anyFixed bytes i)
+Inv-loop bytes found₀ i₀ found i = (i ≤ countIn bytes) × (found ≡ anyFixed bytes i)
 
 abbrev μ-loop : tie.MeasureT-loop
-μ-loop bytes found₀ i₀ found i = length bytes / 4 - i
+μ-loop bytes found₀ i₀ found i = countIn bytes - i
 
 abbrev fixedAt : List ℕ → ℕ → Bool
 fixedAt bytes i = isFixed (wordAt bytes i)

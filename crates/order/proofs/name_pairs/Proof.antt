@@ -2,20 +2,19 @@
 use mathlib.Core.Path.{_≡_, refl}
 use mathlib.Core.Bool.{Bool}
 use mathlib.Core.List.{List}
-use Prim.Native.Nat.{ℕ, _-_, _/_, _≤_}
+use Prim.Native.Nat.{ℕ, _-_, _≤_}
 use native.Mathlib.Omega.{arith}
-use lib.ListN.{length}
 use Rattle.pairs.specs.Order.{someBelow}
-use Rattle.order.specs.Pairs.{pairedWith, anyPair}
+use Rattle.order.specs.Pairs.{pairedWith, anyPair, countIn}
 use Rattle.order.proofs.Turns.{turn, at-end}
 use Rattle.order.proofs.name_pairs.Statement.{statement}
 use Rattle.order.proofs.name_pairs.Tie as tie
 
 abbrev Inv-loop : tie.InvT-loop
-Inv-loop bytes found₀ i₀ found i = (i ≤ length bytes / 4) × (found ≡ anyPair bytes i)
+Inv-loop bytes found₀ i₀ found i = (i ≤ countIn bytes) × (found ≡ anyPair bytes i)
 
 abbrev μ-loop : tie.MeasureT-loop
-μ-loop bytes found₀ i₀ found i = length bytes / 4 - i
+μ-loop bytes found₀ i₀ found i = countIn bytes - i
 
 abbrev pairedAt : List ℕ → ℕ → Bool
 pairedAt bytes i = someBelow (pairedWith bytes i) i
