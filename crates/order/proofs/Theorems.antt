@@ -25,7 +25,7 @@ use Rattle.pairs.specs.Claims.{Bytes, NoneClash}
 use Rattle.pairs.proofs.Below.{below-some}
 use Rattle.pairs.proofs.Theorems.{decides, never-itself, any-order}
 use Rattle.order.specs.declared.Verdict.the-variants.{AnyOrder, AnyOrderBetween}
-use Rattle.order.specs.Pairs.{wordAt, pairedWith, anyPair, outerDecoded, isFixed, anyFixed, countIn, endsInAWord, isTooLong, verdict, wordsFrom, words, SameEnd, NoneFixed, Rearranged, last, past, Means}
+use Rattle.order.specs.Pairs.{wordAt, pairedWith, anyPair, outerDecoded, isFixed, anyFixed, countIn, endsInMidWord, isTooLong, verdict, wordsFrom, words, SameEnd, NoneFixed, Rearranged, behind, before, Means}
 use Rattle.order.proofs.Leaving.{after-bytes, after-flags, played-bytes, played-flags}
 
 -- a word of a stretch has a place in it
@@ -99,8 +99,8 @@ unfolding played
 split m ws vs w = foldl-append after m ws (w ∷ vs)
 
 rearranged-same : {ws os : List ℕ} → Rearranged ws os → Small ws → NoneClash allFlags ws → SameEnd ws os
-rearranged-same (last ws os free perm) fits none m e za = free-same ws os free fits none perm m e za
-rearranged-same (past ws os free perm w fixed vs us r) fits none m e za =
+rearranged-same (behind ws os free perm) fits none m e za = free-same ws os free fits none perm m e za
+rearranged-same (before ws os free perm w fixed vs us r) fits none m e za =
     let n = after (played m ws) w in
     let first = free-same ws os free (λ v s. fits v (mem-append-left (w ∷ vs) s)) (λ u v s t. none u v (mem-append-left (w ∷ vs) s) (mem-append-left (w ∷ vs) t)) perm m e za in
     let later =
@@ -127,8 +127,8 @@ pub means : (bytes : List ℕ) → Bytes bytes → Means bytes
 means bytes whole = record {
   any-order =
       λ v os perm.
-      let (p, f) = verdict-any (endsInAWord bytes) (isTooLong bytes) (anyPair bytes (countIn bytes)) (anyFixed bytes (countIn bytes)) v in
+      let (p, f) = verdict-any (endsInMidWord bytes) (isTooLong bytes) (anyPair bytes (countIn bytes)) (anyFixed bytes (countIn bytes)) v in
       free-same (words bytes) os (none-fixed bytes f) (small bytes whole) (none-clash bytes p) perm;
   between-fixed =
-      λ v os r. rearranged-same r (small bytes whole) (none-clash bytes (verdict-between (endsInAWord bytes) (isTooLong bytes) (anyPair bytes (countIn bytes)) (anyFixed bytes (countIn bytes)) v));
+      λ v os r. rearranged-same r (small bytes whole) (none-clash bytes (verdict-between (endsInMidWord bytes) (isTooLong bytes) (anyPair bytes (countIn bytes)) (anyFixed bytes (countIn bytes)) v));
 }

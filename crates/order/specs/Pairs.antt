@@ -45,8 +45,8 @@ anyFixed bytes n = someBelow (λ i. isFixed (wordAt bytes i)) n
 abbrev pub countIn : List ℕ → ℕ
 countIn bytes = length bytes / 4
 
-abbrev pub endsInAWord : List ℕ → Bool
-endsInAWord bytes = not (eqb (length bytes % 4) 0)
+abbrev pub endsInMidWord : List ℕ → Bool
+endsInMidWord bytes = not (eqb (length bytes % 4) 0)
 
 abbrev pub isTooLong : List ℕ → Bool
 isTooLong bytes = ltb (4 * mostWords) (length bytes)
@@ -56,7 +56,7 @@ abbrev pub verdict : Bool → Bool → Bool → Bool → Verdict
 verdict broken long paired fixed = cond broken NotWords (cond long TooLong (cond paired OrderMatters (cond fixed AnyOrderBetween AnyOrder)))
 
 abbrev pub verdictOf : List ℕ → Verdict
-verdictOf bytes = verdict (endsInAWord bytes) (isTooLong bytes) (anyPair bytes (countIn bytes)) (anyFixed bytes (countIn bytes))
+verdictOf bytes = verdict (endsInMidWord bytes) (isTooLong bytes) (anyPair bytes (countIn bytes)) (anyFixed bytes (countIn bytes))
 
 -- ---- what it means: the list in another order leaves the same, from any ZA, executed one at a time
 abbrev pub wordsFrom : (ℕ → ℕ) → ℕ → List ℕ
@@ -72,10 +72,10 @@ SameEnd ws os = (m : Machine) → m .bench .flags ≡ allFlags → Bytes (m .za)
 abbrev pub NoneFixed : List ℕ → Type 0
 NoneFixed ws = (w : ℕ) → List·Mem w ws → isFixed w ≡ false
 
--- any order that moves no word past a fixed one
+-- any order that moves no word past a fixed one: of the words behind the last of them, and of those before one
 pub data Rearranged : List ℕ → List ℕ → Type 0 where
-  last : (ws os : List ℕ) → NoneFixed ws → List·Permᴰ ws os → Rearranged ws os
-  past : (ws os : List ℕ) → NoneFixed ws → List·Permᴰ ws os → (w : ℕ) → isFixed w ≡ true → (vs us : List ℕ) → Rearranged vs us
+  behind : (ws os : List ℕ) → NoneFixed ws → List·Permᴰ ws os → Rearranged ws os
+  before : (ws os : List ℕ) → NoneFixed ws → List·Permᴰ ws os → (w : ℕ) → isFixed w ≡ true → (vs us : List ℕ) → Rearranged vs us
       → Rearranged (ws ++ (w ∷ vs)) (os ++ (w ∷ us))
 
 pub record Means (bytes : List ℕ) : Type 0 where
