@@ -2,9 +2,8 @@
 // none, any order gives the same ZA, executed one at a time, as long as no word moves past a ZERO or a word that is not listed;
 // these are named first, as fixed. Every feature is on. A list may have 65,536 words, as for a run.
 ghost use mathlib.Core.Path.{_≡_};
-ghost use mathlib.Core.Bool.{not};
 ghost use mathlib.Core.Option.{some};
-ghost use Prim.Native.Nat.{_+_, _*_, _/_, _≤_};
+ghost use Prim.Native.Nat.{_+_, _*_, _≤_};
 ghost use lib.ListN.{length};
 ghost use Rattle.isa.specs.Table.{allFlags};
 ghost use Rattle.replay.specs.Instructions.{isOuter};
