@@ -3,6 +3,7 @@
 
 mod execute;
 mod fields;
+mod list;
 mod order;
 mod read;
 mod text;
@@ -10,6 +11,7 @@ mod tiles;
 
 pub use execute::{Bench, MOST_WORDS, execute, run};
 pub use fields::describe;
+pub use list::listing;
 pub use order::order_matters;
 pub use read::read;
 pub use text::print;

@@ -1,0 +1,9 @@
+pub mod Rooms
+pub mod Inputs
+pub mod Lines
+pub mod Prints
+pub mod Ends
+pub mod Listings
+pub mod Progress
+pub mod Theorems
+pub mod Examples

@@ -1,0 +1,5 @@
+pub mod Listing
+pub mod Pieces
+pub mod Put
+pub mod Claims
+pub mod Examples

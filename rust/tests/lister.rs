@@ -1,0 +1,106 @@
+//! Holds the program `lister`, which `rt check lister` leaves in target/bin, against the independent implementation: the same
+//! words in pieces of every size, as a pipe hands them over.
+
+#[allow(dead_code, unused_imports)]
+mod pseudocode;
+#[allow(dead_code, unused_imports)]
+mod sample;
+
+use sample::{Random, seeds};
+use std::io::{Read, Write};
+use std::path::PathBuf;
+use std::process::{Child, ChildStdin, ChildStdout, Command, Stdio};
+use std::thread;
+use std::time::Duration;
+
+/// Words of every line, listed ones, damaged ones and random ones, with an odd end or none, in pieces of random sizes.
+#[test]
+fn pieces() {
+    for seed in seeds(400) {
+        let random = &mut Random::new(seed);
+        let bytes = words(random, 3_000);
+        let most = random.pick(&[3, 9, 100, 5_000, 20_000]);
+        let text = listed(&bytes, |mut bytes, input| {
+            while !bytes.is_empty() {
+                let length = (1 + random.below(most) as usize).min(bytes.len());
+                let (piece, rest) = bytes.split_at(length);
+                input.write_all(piece).expect("the program reads all of its input");
+                bytes = rest;
+            }
+        });
+        assert_eq!(text, pseudocode::listing(&bytes), "seed {seed}");
+    }
+}
+
+/// A byte at a time, with the line of a word before the next byte is handed over: nothing is kept back.
+#[test]
+fn byte_by_byte() {
+    let random = &mut Random::new(1);
+    let bytes: Vec<u8> = (0..64).flat_map(|_| sample::listed(random).to_le_bytes()).chain([5, 6]).collect();
+    let (mut child, mut input, mut output) = start();
+    let mut text = String::new();
+    for end in 1..=bytes.len() {
+        input.write_all(&bytes[end - 1..end]).expect("the program reads all of its input");
+        thread::sleep(Duration::from_millis(1));
+        if end % 4 == 0 {
+            let due = pseudocode::listing(&bytes[..end]).len() - text.len();
+            let mut line = vec![0; due];
+            output.read_exact(&mut line).expect("a line for each word");
+            text += &String::from_utf8(line).expect("ASCII");
+        }
+    }
+    drop(input);
+    output.read_to_string(&mut text).expect("the end");
+    assert!(child.wait().expect("the program ends").success());
+    assert_eq!(text, pseudocode::listing(&bytes));
+}
+
+/// Nothing, and every short input.
+#[test]
+fn short_inputs() {
+    let bytes = [0x10, 0x00, 0xA0, 0xA0, 0x10, 0x00, 0x00, 0x81, 0x05];
+    for length in 0..=bytes.len() {
+        let text = listed(&bytes[..length], |bytes, input| input.write_all(bytes).expect("the program reads its input"));
+        assert_eq!(text, pseudocode::listing(&bytes[..length]), "{length} bytes");
+    }
+}
+
+/// A long input, by words of every sort: 4 MB and an odd end.
+#[test]
+fn long_input() {
+    let random = &mut Random::new(2);
+    let words = (0..1_000_000).flat_map(|_| sample::word(random, 5).to_le_bytes());
+    let bytes: Vec<u8> = words.chain([1, 2, 3]).collect();
+    let text = listed(&bytes, |bytes, input| input.write_all(bytes).expect("the program reads its input"));
+    assert!(text == pseudocode::listing(&bytes), "another listing");
+}
+
+/// Up to so many words as bytes, and up to three bytes more.
+fn words(random: &mut Random, most: u64) -> Vec<u8> {
+    let (count, odd) = (random.below(most), random.below(4) as usize);
+    let words: Vec<u8> = (0..count).flat_map(|_| sample::word(random, 5).to_le_bytes()).collect();
+    [words, random.bytes(odd)].concat()
+}
+
+/// The program, and the ends of its pipes.
+fn start() -> (Child, ChildStdin, ChildStdout) {
+    let program = PathBuf::from(env!("CARGO_MANIFEST_DIR")).join("../target/bin/lister");
+    let mut command = Command::new(&program);
+    let child = command.stdin(Stdio::piped()).stdout(Stdio::piped()).stderr(Stdio::piped()).spawn();
+    let mut child = child.unwrap_or_else(|e| panic!("{}: {e}: run `rt check lister` first", program.display()));
+    let (input, output) = (child.stdin.take().expect("a pipe"), child.stdout.take().expect("a pipe"));
+    (child, input, output)
+}
+
+/// What the program writes for bytes that are fed to it; it must tell nothing on standard error.
+fn listed(bytes: &[u8], feed: impl FnOnce(&[u8], &mut ChildStdin) + Send) -> String {
+    let (child, mut input, mut output) = start();
+    let mut text = String::new();
+    thread::scope(|scope| {
+        scope.spawn(move || feed(bytes, &mut input));
+        output.read_to_string(&mut text).expect("ASCII");
+    });
+    let ended = child.wait_with_output().expect("the program ends");
+    assert!(ended.status.success() && ended.stderr.is_empty(), "{}", String::from_utf8_lossy(&ended.stderr));
+    text
+}
