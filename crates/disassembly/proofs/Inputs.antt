@@ -7,7 +7,6 @@ use native.Mathlib.Nat.{add-assoc}
 use native.Mathlib.Numerals.{add-one}
 use lib.ListN.{length, getD, drop, drop-of-length-le}
 use lib.Seq.{drop-cons, getD-append-add}
-use Rattle.disassembly.specs.Listing.{wordOf}
 use Rattle.disassembly.specs.Pieces.{pending}
 use Rattle.disassembly.specs.declared.Begun.{Begun}
 use Rattle.disassembly.specs.declared.Begun.the-variants.{Nothing, One, Two, Three}
@@ -60,23 +59,32 @@ behind s t i n e h =
     sym (getD-append-add s t (i - n) 0) ∙ ap (λ (k : ℕ). getD (s ++ t) k 0) q
 
 -- ---- bytes from i on
+pub no-more : (s : List ℕ) (i : ℕ) → length s ≤ i → drop i s ≡ []
+no-more s i h = drop-of-length-le s h
+
 byte-more : (s : List ℕ) (i : ℕ) → i < length s → drop i s ≡ getD s i 0 ∷ drop (i + 1) s
 byte-more s i h = rw (add-one i) (drop-cons s i 0 h)
 
 module _ (s : List ℕ) (i : ℕ) where
-  -- one, two or three of them, and what is behind
-  pub one-byte : i + 1 ≤ length s → drop i s ≡ getD s i 0 ∷ drop (i + 1) s
+  -- as many as stand there, and what is behind them
+  one-byte : i + 1 ≤ length s → drop i s ≡ getD s i 0 ∷ drop (i + 1) s
   one-byte h = byte-more s i (omega arith)
 
-  pub two-bytes : i + 2 ≤ length s → drop i s ≡ getD s i 0 ∷ getD s (i + 1) 0 ∷ drop (i + 2) s
+  two-bytes : i + 2 ≤ length s → drop i s ≡ getD s i 0 ∷ getD s (i + 1) 0 ∷ drop (i + 2) s
   two-bytes h = let b = rw add-assoc at (byte-more s (i + 1) (omega arith)) in rw (one-byte (omega arith), b)
 
-  pub three-bytes : i + 3 ≤ length s → drop i s ≡ getD s i 0 ∷ getD s (i + 1) 0 ∷ getD s (i + 2) 0 ∷ drop (i + 3) s
+  three-bytes : i + 3 ≤ length s → drop i s ≡ getD s i 0 ∷ getD s (i + 1) 0 ∷ getD s (i + 2) 0 ∷ drop (i + 3) s
   three-bytes h = let b = rw add-assoc at (byte-more s (i + 2) (omega arith)) in rw (two-bytes (omega arith), b)
 
   pub four-bytes : i + 4 ≤ length s → drop i s ≡ getD s i 0 ∷ getD s (i + 1) 0 ∷ getD s (i + 2) 0 ∷ getD s (i + 3) 0 ∷ drop (i + 4) s
   four-bytes h = let b = rw add-assoc at (byte-more s (i + 3) (omega arith)) in rw (three-bytes (omega arith), b)
 
--- the end of the bytes
-pub no-more : (s : List ℕ) (i : ℕ) → length s ≤ i → drop i s ≡ []
-no-more s i h = drop-of-length-le s h
+  -- the last ones
+  pub last-one : length s ≡ i + 1 → drop i s ≡ getD s i 0 ∷ []
+  last-one h = one-byte (omega arith) ∙ rw (no-more s (i + 1) (omega arith))
+
+  pub last-two : length s ≡ i + 2 → drop i s ≡ getD s i 0 ∷ getD s (i + 1) 0 ∷ []
+  last-two h = two-bytes (omega arith) ∙ rw (no-more s (i + 2) (omega arith))
+
+  pub last-three : length s ≡ i + 3 → drop i s ≡ getD s i 0 ∷ getD s (i + 1) 0 ∷ getD s (i + 2) 0 ∷ []
+  last-three h = three-bytes (omega arith) ∙ rw (no-more s (i + 3) (omega arith))

@@ -24,12 +24,11 @@ pub(crate) fn word_at(begun: Begun, piece: &[u8], i: usize) -> u32
     requires { ⌜ i + 4 ≤ length (pending begun) + length (now piece) ⌝ }
     ensures { λ r. ⌜ r ≡ wordFrom (pending begun ++ now (piece .entry)) i ⌝ }
 {
-    let bytes = [
-        byte_at(begun, piece, i),
-        byte_at(begun, piece, i + 1),
-        byte_at(begun, piece, i + 2),
-        byte_at(begun, piece, i + 3),
-    ];
+    let a = byte_at(begun, piece, i);
+    let b = byte_at(begun, piece, i + 1);
+    let c = byte_at(begun, piece, i + 2);
+    let d = byte_at(begun, piece, i + 3);
+    let bytes = [a, b, c, d];
     storage::load_u32(&bytes, 0)
 }
 
