@@ -3,7 +3,6 @@
 
 mod execute;
 mod fields;
-mod list;
 mod order;
 mod read;
 mod text;
@@ -11,7 +10,6 @@ mod tiles;
 
 pub use execute::{Bench, MOST_WORDS, execute, run};
 pub use fields::describe;
-pub use list::listing;
 pub use order::order_matters;
 pub use read::read;
 pub use text::print;
