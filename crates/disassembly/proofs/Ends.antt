@@ -1,16 +1,16 @@
 -- The end of a listing, by how many bytes are begun. Assumes nothing.
-use mathlib.Core.Path.{_≡_, _∙_, sym, ap, refl}
-use mathlib.Core.List.{List, [], _∷_, _++_}
+use mathlib.Core.Path.{_≡_, refl}
+use mathlib.Core.List.{List, [], _∷_}
 use Prim.Native.Nat.{ℕ, _+_, _≤_, _<_}
 use native.Mathlib.Omega.{arith}
 use borrow.Author.Tests.{ne-eqb, lt-ltb, le-ltb}
-use lib.ListN.{length, drop}
+use lib.ListN.{length}
 use lib.Seq.{sets}
 use Rattle.isa.specs.declared.Refusal.the-variants.{Room}
 use Rattle.text.specs.Spelling.{Text}
 use Rattle.text.specs.declared.Printed.the-variants.{Length, Refused}
 use Rattle.disassembly.specs.Listing.{endLine}
-use Rattle.disassembly.specs.Pieces.{pending, endFor, finishOf, roomFinished}
+use Rattle.disassembly.specs.Pieces.{pending, endFor, endRoom, finishOf, roomFinished}
 use Rattle.disassembly.specs.declared.Place.{Place}
 use Rattle.disassembly.proofs.Rooms.{at-front}
 use Rattle.disassembly.proofs.Inputs.{begun-short}
@@ -35,10 +35,10 @@ module _ (p : Place) (room : List ℕ) where
     end-is : endFor p ≡ endText begun
     end-is = end-text begun h (begun-short (p .begun))
 
-    pub end-refused : length room < 6 → (Refused Room ≡ finishOf p (length room)) × (room ≡ roomFinished p room)
+    pub end-refused : length room < endRoom → (Refused Room ≡ finishOf p (length room)) × (room ≡ roomFinished p room)
     unfolding finishOf roomFinished
-    end-refused l = rw (end-is, lt-ltb (length room) 6 l) (refl, refl)
+    end-refused l = rw (end-is, lt-ltb (length room) endRoom l) (refl, refl)
 
-    pub end-put : 6 ≤ length room → (Length 6 ≡ finishOf p (length room)) × (sets room 0 (endText begun) ≡ roomFinished p room)
+    pub end-put : endRoom ≤ length room → (Length endRoom ≡ finishOf p (length room)) × (sets room 0 (endText begun) ≡ roomFinished p room)
     unfolding finishOf roomFinished
-    end-put l = rw (end-is, le-ltb (length room) 6 l) (refl, at-front room (endText begun) l)
+    end-put l = rw (end-is, le-ltb (length room) endRoom l) (refl, at-front room (endText begun) l)

@@ -6,13 +6,13 @@ use Rattle.storage.specs.Bytes.{word}
 use Rattle.text.specs.Spelling.{spelling}
 use Rattle.text.specs.Printing.{textOf}
 use Rattle.disassembly.specs.Listing.{hexadecimal, said, line, wordLines, endLine, listing}
-use Rattle.disassembly.specs.Pieces.{linesFor}
-use Rattle.disassembly.specs.Examples.{texts, listings, lastWord, piece, wrapped}
+use Rattle.disassembly.specs.Pieces.{linesFor, placeBehind, after}
+use Rattle.disassembly.specs.Examples.{texts, listings, lastWord, piece, wrapped, behindWrap}
 
 pub examples-hold : listings ≡ texts
 unfolding describe missing decodeOf namesOf word spelling textOf hexadecimal said line wordLines endLine listing
 examples-hold = refl
 
-pub wrap-holds : linesFor lastWord piece ≡ wrapped
-unfolding describe missing decodeOf namesOf word spelling textOf hexadecimal said line wordLines
-wrap-holds = refl
+pub wrap-holds : (linesFor lastWord piece ≡ wrapped) × (after lastWord piece ≡ behindWrap)
+unfolding describe missing decodeOf namesOf word spelling textOf hexadecimal said line wordLines placeBehind
+wrap-holds = (refl, refl)

@@ -1,16 +1,14 @@
 -- A line: how long its parts are, and what is said of a word, by what decode answers with every feature on. Assumes nothing.
-use mathlib.Core.Path.{_≡_, _∙_, sym, ap, refl}
+use mathlib.Core.Path.{_≡_, _∙_, sym, refl}
 use mathlib.Core.Bool.{Bool, true, false, cond}
-use mathlib.Core.List.{List, [], _∷_, _++_}
+use mathlib.Core.List.{List, _++_}
 use mathlib.Core.Option.{none, some}
-use Prim.Native.Nat.{ℕ, _+_, _%_, _^_, _≤_, _<_}
+use Prim.Native.Nat.{ℕ, _+_, _%_, _^_, _≤_}
 use native.Mathlib.Omega.{arith}
 use native.Mathlib.Nat.{mod-mod}
-use borrow.Author.Tests.{ne-eqb, le-ltb}
-use lib.Dec.{eqb}
+use borrow.Author.Tests.{le-ltb}
 use lib.ListN.{length, drop, length-append}
 use Rattle.isa.specs.Table.{Feature, SME, I16I64, MOP4, SME2, allFlags, on}
-use Rattle.isa.specs.Refusals.{number}
 use Rattle.isa.specs.Answers.{describe, absent, decodeOf, decodeNumber}
 use Rattle.isa.specs.Claims.{FeaturesOn}
 use Rattle.isa.specs.declared.Instruction.{Instruction}
@@ -21,7 +19,7 @@ use Rattle.isa.specs.declared.Decoded.the-variants.{Accepted, Refused as NotDec
 use Rattle.isa.proofs.Answers.{decode-refused}
 use Rattle.isa.proofs.Theorems.{decodes, accepted-in-range}
 use Rattle.text.specs.Ascii.{ascii}
-use Rattle.text.specs.Spelling.{Text, spelling}
+use Rattle.text.specs.Spelling.{spelling}
 use Rattle.text.specs.Printing.{textOf, printOf, roomAfter}
 use Rattle.text.specs.declared.Printed.the-variants.{Length, Refused as NotPrinted}
 use Rattle.text.proofs.Rooms.{accepted-text, print-accepted, room-accepted, print-refused, unfilled}

@@ -2,16 +2,14 @@
 -- Assumes nothing.
 use mathlib.Core.Path.{_≡_, _∙_, sym, ap, refl}
 use mathlib.Core.List.{List, [], _∷_, _++_, append-assoc}
-use Prim.Native.Nat.{ℕ, suc, _+_, _*_, _/_, _%_, _^_, _≤_, _<_}
+use Prim.Native.Nat.{ℕ, _+_, _*_, _/_, _%_, _^_, _≤_}
 use native.Mathlib.Omega.{arith}
 use native.Mathlib.Nat.{mod-add-mod}
 use lib.ListN.{length, length-append}
-use Rattle.text.specs.Spelling.{Text}
-use Rattle.disassembly.specs.Listing.{line, wordOf, wordLines, endLine, listing}
-use Rattle.disassembly.specs.Pieces.{pending, joined, linesFor, placeBehind, after, endFor, longestLine}
+use Rattle.disassembly.specs.Listing.{line, wordOf, wordLines}
+use Rattle.disassembly.specs.Pieces.{pending, linesFor, placeBehind, after, longestLine}
 use Rattle.disassembly.specs.declared.Begun.{Begun}
 use Rattle.disassembly.specs.declared.Begun.the-variants.{Nothing, One, Two, Three}
-use Rattle.disassembly.specs.declared.Place.{Place}
 use Rattle.disassembly.proofs.Lines.{line-short, line-mod}
 
 -- ---- bytes of no whole word: nothing is written, and all of them are begun

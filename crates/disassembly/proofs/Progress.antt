@@ -1,16 +1,15 @@
 -- A piece listed word by word: what is left to list comes to what the whole does. Assumes nothing.
 use mathlib.Core.Path.{_≡_, _∙_, sym, ap, refl}
-use mathlib.Core.List.{List, [], _∷_, _++_}
-use Prim.Native.Nat.{ℕ, suc, _+_, _*_, _%_, _^_, _≤_, _<_}
+use mathlib.Core.List.{List, _++_}
+use Prim.Native.Nat.{ℕ, _+_, _*_, _%_, _^_, _≤_}
 use native.Mathlib.Omega.{arith}
 use lib.ListN.{length, drop, length-append}
 use lib.Seq.{sets, length-sets}
-use Rattle.disassembly.specs.Listing.{line, wordOf, wordLines}
+use Rattle.storage.proofs.Bytes.{sets-append}
+use Rattle.disassembly.specs.Listing.{line, wordLines}
 use Rattle.disassembly.specs.Pieces.{pending, wordFrom, placeBehind, longestLine}
 use Rattle.disassembly.specs.Put.{Put}
 use Rattle.disassembly.specs.declared.Begun.{Begun}
-use Rattle.disassembly.specs.declared.Place.{Place}
-use Rattle.disassembly.proofs.Rooms.{sets-append}
 use Rattle.disassembly.proofs.Inputs.{four-bytes}
 use Rattle.disassembly.proofs.Lines.{line-short}
 use Rattle.disassembly.proofs.Listings.{no-lines, no-words, lines-mod}
@@ -57,7 +56,7 @@ goes-on {bytes} {room₀} {room} {address₀} {address} {at} {k} s h p r =
       within = omega arith;
       short = omega (arith, s .short, line-short address (wordFrom bytes (4 * k)));
       size = length-sets room at l ∙ s .size;
-      text = rw e (sets-append room at l t ∙ ap (sets room at) (sym n) ∙ s .text);
+      text = rw e (sym (sets-append l t room at) ∙ ap (sets room at) (sym n) ∙ s .text);
       ends = rw e (omega (arith, length-append l t, ap length n, s .ends));
       place = rw e (sym (next-place bytes address k h) ∙ s .place);
     }

@@ -1,28 +1,22 @@
 -- A room with a text put into it: texts one behind the other, and a part that was lent to a call. Assumes nothing.
-use mathlib.Core.Path.{_≡_, _∙_, sym, ap, refl}
-use mathlib.Core.List.{List, [], _∷_, _++_, append-assoc, append-nil}
-use Prim.Native.Nat.{ℕ, suc, _+_, _-_, _≤_}
-use native.Mathlib.Nat.{add-zero, zero-add}
+use mathlib.Core.Path.{_≡_, _∙_, sym, ap}
+use mathlib.Core.List.{List, [], _++_, append-assoc, append-nil}
+use Prim.Native.Nat.{ℕ, _+_, _-_, _≤_}
 use native.Mathlib.Omega.{arith}
 use borrow.Rule.Slice.PartMut.{putMid}
-use lib.ListN.{length, take, drop, set, length-append, length-drop, take-append-drop, drop-of-length-le}
+use lib.ListN.{length, take, drop, length-append, length-drop, take-append-drop, drop-of-length-le}
 use lib.Seq.{sets, length-sets, sets-eq, drop-drop, take-all}
+use Rattle.storage.proofs.Bytes.{sets-append}
 use Rattle.disassembly.specs.Put.{Put}
 
--- one text behind another is both of them
-pub sets-append : (room : List ℕ) (i : ℕ) (s t : List ℕ) → sets (sets room i s) (i + length s) t ≡ sets room i (s ++ t)
-sets-append room i [] t = rw add-zero
-sets-append room i (x ∷ s) t =
-    let e : i + suc (length s) ≡ suc i + length s = omega arith in
-    rw e (sets-append (set room i x) (suc i) s t)
-
+-- ---- texts one behind the other
 module _ {before after : List ℕ} {at next : ℕ} where
   infixl 20 _then_
   pub _then_ : {mid : List ℕ} {k : ℕ} {s t : List ℕ} → Put before at mid k s → Put mid k after next t → Put before at after next (s ++ t)
   _then_ {s = s} {t = t} p q =
       record {
         ends = omega (arith, p .ends, q .ends, length-append s t);
-        text = q .text ∙ rw (p .text, p .ends) (sets-append before at s t);
+        text = q .text ∙ rw (p .text, p .ends) (sym (sets-append s t before at));
       }
 
   pub put-size : {t : List ℕ} → Put before at after next t → length after ≡ length before

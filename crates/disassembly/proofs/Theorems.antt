@@ -1,21 +1,22 @@
 -- A listing that is made piece by piece is the listing of the whole input, however it is cut, in rooms of any size; how much room
 -- a piece wants; and how addresses go on. Assumes nothing.
 use mathlib.Core.Path.{_≡_, _∙_, sym, ap, refl}
+use mathlib.Core.Bool.{Bool, true, false}
 use mathlib.Core.List.{List, [], _∷_, _++_, append-assoc, append-nil, map, flatten}
-use Prim.Native.Nat.{ℕ, _+_, _-_, _*_, _/_, _%_, _^_, _≤_, _<_, min}
+use Prim.Native.Nat.{ℕ, _+_, _-_, _*_, _/_, _%_, _^_, _≤_, min}
 use native.Mathlib.Omega.{arith}
-use native.Mathlib.Nat.{min-le-left, min-le-right, min-eq-left, div-mul-le-self}
-use borrow.Author.Tests.{le-ltb}
+use native.Mathlib.Nat.{min-le-left, min-le-right, min-eq-left}
+use borrow.Author.Tests.{ltb-true, ltb-false}
+use lib.Dec.{ltb}
 use lib.ListN.{length, take, drop, length-append}
 use lib.Seq.{take-append-seam, take-all, length-take-le}
 use Rattle.isa.specs.Table.{allFlags}
 use Rattle.isa.specs.Answers.{describe, missing, decodeOf}
 use Rattle.isa.proofs.Theorems.{decodes}
-use Rattle.text.specs.Printing.{printedLength}
 use Rattle.text.proofs.Lengths.{longest-line}
-use Rattle.disassembly.specs.Listing.{said, line, wordLines, endLine, listing}
-use Rattle.disassembly.specs.Pieces.{pending, atStart, joined, linesFor, placeBehind, after, endFor, longestLine, listedAll, most, takenPart, listOf, roomListed, finishOf, roomFinished}
-use Rattle.disassembly.specs.Claims.{written, AnyCut, roomFor, endRoom, Call, writtenBy, takenBy, Roomy, AnyCalls, Suffices, Says, Longest, Wraps}
+use Rattle.disassembly.specs.Listing.{line, wordLines, endLine, listing}
+use Rattle.disassembly.specs.Pieces.{pending, atStart, joined, linesFor, placeBehind, after, endFor, longestLine, endRoom, listedAll, most, takenPart, listOf, roomListed, finishOf, roomFinished, finishLength}
+use Rattle.disassembly.specs.Claims.{written, AnyCut, roomFor, Call, writtenBy, takenBy, Roomy, AnyCalls, Suffices, Finishes, Says, Longest, Wraps}
 use Rattle.disassembly.specs.declared.Begun.{Begun}
 use Rattle.disassembly.specs.declared.Begun.the-variants.{Nothing, One, Two, Three}
 use Rattle.disassembly.specs.declared.Place.{Place}
@@ -72,10 +73,11 @@ module _ (p : Place) (piece : List ℕ) where
   written-fits room = omega (arith, lines-short (p .address) (joined p (takenPart p piece room)), taken-fits room)
 
   pub suffices : Suffices p piece
-  unfolding listOf
+  unfolding listOf roomListed
   suffices =
       record {
         whole = λ room h. ap (listedAll p) (all-taken room h);
+        whole-room = λ room h. ap (λ (s : List ℕ). linesFor p s ++ drop (length (linesFor p s)) room) (all-taken (length room) h);
         most-taken = λ room. omega (arith, taken-length room, min-le-left n (most p room));
         some-taken = λ room h l. omega (arith, taken-length room, begun-short (p .begun));
         fits = written-fits;
@@ -83,25 +85,56 @@ module _ (p : Place) (piece : List ℕ) where
         most-lines = lines-short (p .address) (joined p piece);
       }
 
+-- ---- the end
+-- its line has six bytes, if there is one
+end-lengths : (b : Begun) → (let n = length (pending b) in
+    (n ≡ 0 → length (endLine n) ≡ 0) × ((n ≡ 0 → ⊥) → length (endLine n) ≡ endRoom) × (length (endLine n) ≤ endRoom))
+unfolding endLine
+end-lengths Nothing = (λ e. refl, λ d. absurd (d refl), omega arith)
+end-lengths (One x) = (λ e. absurd (omega arith), λ d. refl, omega arith)
+end-lengths (Two x y) = (λ e. absurd (omega arith), λ d. refl, omega arith)
+end-lengths (Three x y z) = (λ e. absurd (omega arith), λ d. refl, omega arith)
+
+pub finishes : (p : Place) (room : List ℕ) → Finishes p room
+unfolding finishOf roomFinished
+finishes p room = go (ltb (length room) (length (endFor p))) refl
+  where
+    go : (b : Bool) → ltb (length room) (length (endFor p)) ≡ b → Finishes p room
+    go true q =
+        let l = ltb-true (length room) (length (endFor p)) q in
+        record {
+          accepts = rw q (λ e. absurd (omega arith), λ h. absurd (omega arith));
+          gives-12 = rw q (λ e. l, λ h. refl);
+          no-sum = rw q;
+          refused = rw q (λ d. (refl, refl));
+          written = rw q (λ e. absurd (omega arith));
+          no-line = end-lengths (p .begun) .0;
+          one-line = end-lengths (p .begun) .1;
+          short = end-lengths (p .begun) .2;
+        }
+    go false q =
+        let l = ltb-false (length room) (length (endFor p)) q in
+        record {
+          accepts = rw q (λ e. l, λ h. refl);
+          gives-12 = rw q (λ e. absurd (omega arith), λ h. absurd (omega arith));
+          no-sum = rw q;
+          refused = rw q (λ d. absurd (d refl));
+          written = rw q (λ e. (refl, refl));
+          no-line = end-lengths (p .begun) .0;
+          one-line = end-lengths (p .begun) .1;
+          short = end-lengths (p .begun) .2;
+        }
+
+end-written : (p : Place) (end : List ℕ) → endRoom ≤ length end → take (finishLength p (length end)) (roomFinished p end) ≡ endFor p
+end-written p end h =
+    let f = finishes p end in
+    let (t, n) = f .written (f .accepts .1 (omega (arith, f .short))) in
+    rw (t, n) (take-append-seam (endFor p) (drop (length (endFor p)) end))
+
 -- ---- calls with rooms of any size
 parts : Place → List Call → List (List ℕ)
 parts p [] = []
 parts p (c ∷ cs) = let s = takenPart p (c .piece) (length (c .room)) in s ∷ parts (after p s) cs
-
-end-short : (p : Place) → length (endFor p) ≤ endRoom
-unfolding endLine
-end-short p = go (p .begun)
-  where
-    go : (b : Begun) → length (endLine (length (pending b))) ≤ endRoom
-    go Nothing = omega arith
-    go (One x) = omega arith
-    go (Two x y) = omega arith
-    go (Three x y z) = omega arith
-
-end-written : (p : Place) (end : List ℕ) → endRoom ≤ length end → take (printedLength (finishOf p (length end))) (roomFinished p end) ≡ endFor p
-unfolding finishOf roomFinished
-end-written p end h =
-    rw (le-ltb (length end) (length (endFor p)) (omega (arith, end-short p))) (take-append-seam (endFor p) (drop (length (endFor p)) end))
 
 written-parts : (p : Place) (calls : List Call) (end : List ℕ) → endRoom ≤ length end → writtenBy p calls end ≡ written p (parts p calls)
 unfolding parts listOf roomListed

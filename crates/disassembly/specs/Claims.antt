@@ -1,15 +1,17 @@
 -- What document 02, C-19, asks of a listing that is made piece by piece; proofs/Theorems.antt proves it for every input.
 use mathlib.Core.Path.{_≡_}
+use mathlib.Core.Logic.{_↔_}
 use mathlib.Core.List.{List, [], _∷_, _++_, map, flatten}
 use Prim.Native.Nat.{ℕ, _+_, _*_, _/_, _%_, _^_, _≤_, _<_}
 use lib.ListN.{length, take, drop}
 use Rattle.isa.specs.Claims.{Listed}
 use Rattle.text.specs.Ascii.{ascii}
 use Rattle.text.specs.Spelling.{Text}
-use Rattle.text.specs.Printing.{textOf, printedLength}
+use Rattle.text.specs.Printing.{textOf}
 use Rattle.disassembly.specs.declared.Place.{Place}
 use Rattle.disassembly.specs.Listing.{said, line, wordLines, listing}
-use Rattle.disassembly.specs.Pieces.{atStart, joined, linesFor, after, endFor, longestLine, listedAll, listOf, roomListed, finishOf, roomFinished}
+use Rattle.disassembly.specs.Pieces.{pending, atStart, joined, linesFor, after, endFor, longestLine, endRoom, listedAll, listOf, roomListed}
+use Rattle.disassembly.specs.Pieces.{roomFinished, finishNumber, finishMissing, finishLength}
 
 -- ---- what is written for pieces in turn, and then at the end
 abbrev pub written : Place → List (List ℕ) → Text
@@ -24,10 +26,6 @@ AnyCut = (pieces : List (List ℕ)) → written atStart pieces ≡ listing (flat
 abbrev pub roomFor : ℕ → ℕ
 roomFor n = longestLine * ((n + 3) / 4)
 
--- and the end
-abbrev pub endRoom : ℕ
-endRoom = 6
-
 -- ---- the same of calls: each is lent a piece and a room, and the last call, of finish, a room of its own
 pub record Call : Type 0 where
   pub piece : List ℕ
@@ -35,7 +33,7 @@ pub record Call : Type 0 where
 
 -- what stands in the rooms when the calls return, as far as their answers say
 abbrev pub writtenBy : Place → List Call → List ℕ → Text
-writtenBy p [] end = take (printedLength (finishOf p (length end))) (roomFinished p end)
+writtenBy p [] end = take (finishLength p (length end)) (roomFinished p end)
 writtenBy p (c ∷ cs) end =
     let answer = listOf p (c .piece) (length (c .room)) in
     take (answer .written) (roomListed p (c .piece) (c .room)) ++ writtenBy (answer .place) cs end
@@ -59,6 +57,8 @@ pub record AnyCalls (calls : List Call) (end : List ℕ) : Type 0 where
 pub record Suffices (p : Place) (piece : List ℕ) : Type 0 where
   -- in a room of so many bytes, or more, all of the piece is taken
   pub whole : (room : ℕ) → roomFor (length piece) ≤ room → listOf p piece room ≡ listedAll p piece
+  pub whole-room : (room : List ℕ) → roomFor (length piece) ≤ length room
+      → roomListed p piece room ≡ linesFor p piece ++ drop (length (linesFor p piece)) room
   -- no more is taken than there is
   pub most-taken : (room : ℕ) → listOf p piece room .taken ≤ length piece
   -- a room for one line takes some of every piece that is not empty
@@ -68,6 +68,19 @@ pub record Suffices (p : Place) (piece : List ℕ) : Type 0 where
   -- the piece completes at most (n + 3) / 4 words, whose lines fit the room
   pub most-words : length (joined p piece) / 4 ≤ (length piece + 3) / 4
   pub most-lines : length (linesFor p piece) ≤ longestLine * (length (joined p piece) / 4)
+
+-- ---- the end: 12 exactly where the room is shorter than its line, which it leaves as it was; otherwise the line is there
+pub record Finishes (p : Place) (room : List ℕ) : Type 0 where
+  pub accepts : (finishNumber p (length room) ≡ 0) ↔ (length (endFor p) ≤ length room)
+  pub gives-12 : (finishNumber p (length room) ≡ 12) ↔ (length room < length (endFor p))
+  pub no-sum : finishMissing p (length room) ≡ 0
+  pub refused : (finishNumber p (length room) ≡ 0 → ⊥) → (roomFinished p room ≡ room) × (finishLength p (length room) ≡ 0)
+  pub written : finishNumber p (length room) ≡ 0
+      → (roomFinished p room ≡ endFor p ++ drop (length (endFor p)) room) × (finishLength p (length room) ≡ length (endFor p))
+  -- no line where no byte is begun, and one of six bytes otherwise
+  pub no-line : length (pending (p .begun)) ≡ 0 → length (endFor p) ≡ 0
+  pub one-line : (length (pending (p .begun)) ≡ 0 → ⊥) → length (endFor p) ≡ endRoom
+  pub short : length (endFor p) ≤ endRoom
 
 -- ---- a line: a listed word has its text, and any other the one refusal that there is with every feature on
 pub record Says (w : ℕ) : Type 0 where

@@ -5,8 +5,7 @@ use Prim.Native.Nat.{ℕ}
 use Rattle.text.specs.Ascii.{ascii}
 use Rattle.text.specs.Spelling.{Text}
 use Rattle.disassembly.specs.Listing.{lineFeed, listing}
-use Rattle.disassembly.specs.Pieces.{linesFor, after}
-use Rattle.disassembly.specs.declared.Begun.the-variants.{Nothing, Two}
+use Rattle.disassembly.specs.declared.Begun.the-variants.{One, Two}
 use Rattle.disassembly.specs.declared.Place.{Place}
 
 -- each with its line feed
@@ -61,3 +60,7 @@ piece = 0xA0 ∷ 0xA0 ∷ 0x10 ∷ 0x00 ∷ 0x00 ∷ 0x81 ∷ 0x05 ∷ []
 
 abbrev pub wrapped : Text
 wrapped = lines (ascii "fffffffc a0a00010 sumops za0.s, p0/m, p0/m, z0.b, z0.b" ∷ ascii "00000000 81000010 -7" ∷ [])
+
+-- and the last byte begins the second word of the next round
+abbrev pub behindWrap : Place
+behindWrap = record { address = 4; begun = One 0x05 }

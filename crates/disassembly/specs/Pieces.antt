@@ -7,13 +7,13 @@ use lib.ListN.{length, getD, take, drop}
 use Rattle.isa.specs.Refusals.{Test, firstFailure}
 use Rattle.isa.specs.declared.Refusal.the-variants.{Room}
 use Rattle.text.specs.Spelling.{Text}
-use Rattle.text.specs.Printing.{printed, filled}
+use Rattle.text.specs.Printing.{printed, filled, printedNumber, printedMissing, printedLength}
 use Rattle.text.specs.declared.Printed.{Printed}
 use Rattle.disassembly.specs.Listing.{wordOf, wordLines, endLine}
 use Rattle.disassembly.specs.declared.Begun.{Begun}
 use Rattle.disassembly.specs.declared.Begun.the-variants.{Nothing, One, Two, Three}
 use Rattle.disassembly.specs.declared.Place.{Place}
-use Rattle.disassembly.specs.declared.Listed.{Listed}
+use Rattle.disassembly.specs.declared.Advance.{Advance}
 
 -- the bytes of a word begun
 abbrev pub pending : Begun → List ℕ
@@ -52,23 +52,27 @@ wordFrom bytes i = wordOf (getD bytes i 0) (getD bytes (i + 1) 0) (getD bytes (i
 abbrev pub endFor : Place → Text
 endFor p = endLine (length (pending (p .begun)))
 
--- ---- the room: no line has more bytes than this
+-- ---- the room: no line of a word has more bytes than this, and that of an odd end has so many
 abbrev pub longestLine : ℕ
 longestLine = 66
 
--- all of a piece listed: where the listing then stands, how many bytes were taken, and how many written
-abbrev pub listedAll : Place → List ℕ → Listed
+abbrev pub endRoom : ℕ
+endRoom = 6
+
+-- all of a piece listed: where the listing then stands, how many bytes were taken, and how many were written
+abbrev pub listedAll : Place → List ℕ → Advance
 listedAll p piece = record { place = after p piece; taken = length piece; written = length (linesFor p piece) }
 
--- how many bytes are taken of a piece of n: as many as complete no more words than the room has place for, by the longest lines
+-- how many bytes a room takes at most: those that complete no more words than it has place for, by the longest lines
 abbrev pub most : Place → ℕ → ℕ
 most p room = 4 * (room / longestLine) + 3 - length (pending (p .begun))
 
+-- the part of a piece that is taken
 abbrev pub takenPart : Place → List ℕ → ℕ → List ℕ
 takenPart p piece room = take (min (length piece) (most p room)) piece
 
 -- list's answer, for a room of so many bytes, and what it leaves in the room
-unfoldable pub listOf : Place → List ℕ → ℕ → Listed
+unfoldable pub listOf : Place → List ℕ → ℕ → Advance
 listOf p piece room = listedAll p (takenPart p piece room)
 
 unfoldable pub roomListed : Place → List ℕ → List ℕ → List ℕ
@@ -83,3 +87,13 @@ finishOf p room = printed (firstFailure (endTests p room)) (endFor p)
 
 unfoldable pub roomFinished : Place → List ℕ → List ℕ
 roomFinished p room = filled (firstFailure (endTests p (length room))) (endFor p) room
+
+-- the paper's number, sum and value of finish's answer
+abbrev pub finishNumber : Place → ℕ → ℕ
+finishNumber p room = printedNumber (finishOf p room)
+
+abbrev pub finishMissing : Place → ℕ → ℕ
+finishMissing p room = printedMissing (finishOf p room)
+
+abbrev pub finishLength : Place → ℕ → ℕ
+finishLength p room = printedLength (finishOf p room)

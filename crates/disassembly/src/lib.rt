@@ -2,17 +2,16 @@
 mod input;
 mod line;
 
+pub use line::END_LINE;
 pub use line::LONGEST_LINE;
 ghost use mathlib.Core.Path.{_≡_};
 ghost use Prim.Native.Nat.{_+_, _*_, _/_, _≤_, min};
 ghost use lib.ListN.{length};
 ghost use lib.Seq.{sets};
-ghost use Rattle.disassembly.specs.Pieces.{atStart, joined, linesFor, longestLine, listedAll, listOf, roomListed, finishOf, roomFinished};
+ghost use Rattle.text.specs.Printing.{printedNumber, printedMissing, printedLength};
+ghost use Rattle.disassembly.specs.Pieces.{atStart, joined, linesFor, longestLine, listedAll, listOf, roomListed, finishOf, roomFinished, finishNumber, finishMissing, finishLength};
 use isa::Refusal;
 use text::Printed;
-
-// The bytes of the line of an odd end.
-const END_LINE: usize = 6;
 
 // The bytes of a word that have come so far.
 pub enum Begun {
@@ -29,7 +28,7 @@ pub struct Place {
 }
 
 // Where it stands behind a piece, how many bytes of the piece were taken, and how many were written.
-pub struct Listed {
+pub struct Advance {
     pub place: Place,
     pub taken: usize,
     pub written: usize,
@@ -46,8 +45,9 @@ pub fn start() -> Place
 }
 
 // Puts the lines of the words that a piece completes at the start of room; the bytes after them stay. No more of the piece is
-// taken than has room whatever the words are: a room of LONGEST_LINE for each word that it may complete takes all of it.
-pub fn list(place: Place, piece: &[u8], room: &mut [u8]) -> Listed
+// taken than has room whatever the words are: a room of LONGEST_LINE for each word that it may complete takes all of it, and a
+// room of one LONGEST_LINE some of it.
+pub fn list(place: Place, piece: &[u8], room: &mut [u8]) -> Advance
     ensures { λ r. ⌜ r ≡ listOf place (now (piece .entry)) (length (now (room .entry))) ⌝ }
     ensures { λ _. ⌜ now (room .exit) ≡ roomListed place (now (piece .entry)) (now (room .entry)) ⌝ }
 {
@@ -61,6 +61,9 @@ pub fn list(place: Place, piece: &[u8], room: &mut [u8]) -> Listed
 pub fn finish(place: Place, room: &mut [u8]) -> Printed
     ensures { λ r. ⌜ r ≡ finishOf place (length (now (room .entry))) ⌝ }
     ensures { λ _. ⌜ now (room .exit) ≡ roomFinished place (now (room .entry)) ⌝ }
+    ensures { λ r. ⌜ printedNumber r ≡ finishNumber place (length (now (room .entry))) ⌝ }
+    ensures { λ r. ⌜ printedMissing r ≡ finishMissing place (length (now (room .entry))) ⌝ }
+    ensures { λ r. ⌜ printedLength r ≡ finishLength place (length (now (room .entry))) ⌝ }
 {
     let begun = place.begun;
     let n = input::count(begun);
@@ -75,7 +78,7 @@ pub fn finish(place: Place, room: &mut [u8]) -> Printed
 }
 
 // All of a piece, for which there is room.
-fn list_all(place: Place, piece: &[u8], room: &mut [u8]) -> Listed
+fn list_all(place: Place, piece: &[u8], room: &mut [u8]) -> Advance
     requires { ⌜ length (joined place (now piece)) ≤ 4 * (length (now room) / longestLine) + 3 ⌝ }
     ensures { λ r. ⌜ r ≡ listedAll place (now (piece .entry)) ⌝ }
     ensures { λ _. ⌜ now (room .exit) ≡ sets (now (room .entry)) 0 (linesFor place (now (piece .entry))) ⌝ }
@@ -90,7 +93,7 @@ fn list_all(place: Place, piece: &[u8], room: &mut [u8]) -> Listed
         address = std::num::wrapping_add_u32(address, 4);
         k += 1;
     }
-    Listed {
+    Advance {
         place: Place {
             address,
             begun: input::rest_from(begun, piece, 4 * k),

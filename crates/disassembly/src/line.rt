@@ -15,6 +15,9 @@ use text::Printed;
 // The bytes of the longest line: two numbers of eight digits, two spaces, a text of 47 bytes and a line feed.
 pub const LONGEST_LINE: usize = 66;
 
+// The bytes of the line of an odd end.
+pub const END_LINE: usize = 6;
+
 // The line of a word at an address.
 pub(crate) fn put_line(room: &mut [u8], at: usize, address: u32, word: u32) -> usize
     requires { ⌜ at + longestLine ≤ length (now room) ⌝ }

@@ -2,11 +2,13 @@
 // address, the word and its text, or - and the refusal number; an odd end of one to three bytes has a last line, `end` and how many
 // they are. Every feature is on. What is read is listed and written at once. A read or a write that fails is told on standard error.
 ghost use mathlib.Core.Path.{_≡_};
-ghost use Prim.Native.Nat.{_≤_};
-ghost use lib.ListN.{length, replicate};
-ghost use Rattle.disassembly.specs.Pieces.{after};
+ghost use mathlib.Core.List.{_++_};
+ghost use Prim.Native.Nat.{_-_, _^_, _≤_};
+ghost use lib.ListN.{length, drop};
+ghost use Rattle.disassembly.specs.Pieces.{linesFor, endFor, endRoom, listedAll};
 ghost use Rattle.disassembly.specs.Claims.{roomFor};
-ghost use Rattle.lister.specs.Steps.{mostRead, Reaches};
+ghost use Rattle.lister.specs.Reads.{mostRead};
+use disassembly::Advance;
 use disassembly::Place;
 use libc::STDERR_FILENO;
 use libc::STDIN_FILENO;
@@ -14,10 +16,7 @@ use libc::STDOUT_FILENO;
 use text::Printed;
 
 // Room for the lines of what is read at once, 4,096 bytes: 1,024 words.
-const ROOM: usize = 67584;
-
-// A loop has to end, and nothing says that an input does. No input takes so many reads.
-const MOST_READS: u64 = 0xffff_ffff_ffff_ffff;
+const ROOM: usize = 1024 * disassembly::LONGEST_LINE;
 
 // What comes of a read: the listing goes on from a place, or it is over.
 pub enum Step {
@@ -28,7 +27,7 @@ pub enum Step {
 fn main() {
     let mut room = lines_room();
     let mut place = disassembly::start();
-    let mut reads: u64 = MOST_READS;
+    let mut reads = most_reads();
     while 0 < reads {
         match read_and_list(place, &mut room) {
             Step::On(p) => {
@@ -49,6 +48,13 @@ fn lines_room() -> [u8; ROOM]
     [0; ROOM]
 }
 
+// A loop has to end, and nothing says that an input does. No input takes so many reads.
+fn most_reads() -> u64
+    ensures { λ r. ⌜ r ≡ 2 ^ 64 - 1 ⌝ }
+{
+    u64::MAX
+}
+
 // Reads once, and lists what came. A read that fails is no end.
 fn read_and_list(place: Place, room: &mut [u8]) -> Step
     requires { ⌜ roomFor mostRead ≤ length (now room) ⌝ }
@@ -61,18 +67,11 @@ fn read_and_list(place: Place, room: &mut [u8]) -> Step
     }
     let n = io::count(got, &piece);
     if n == 0 {
-        end(place, room);
+        let end = put_end(place, room);
+        write(checks::first(room, end));
         return Step::Over;
     }
-    list_piece(place, &piece[..n], room)
-}
-
-// Lists a piece whole, and writes its lines.
-fn list_piece(place: Place, piece: &[u8], room: &mut [u8]) -> Step
-    requires { ⌜ roomFor (length (now piece)) ≤ length (now room) ⌝ }
-    ensures { λ r. ⌜ Reaches (after place (now (piece .entry))) r ⌝ }
-{
-    let listed = disassembly::list(place, piece, room);
+    let listed = list_whole(place, &piece[..n], room);
     if !write(checks::first(room, listed.written)) {
         return Step::Over;
     }
@@ -80,10 +79,24 @@ fn list_piece(place: Place, piece: &[u8], room: &mut [u8]) -> Step
     Step::On(behind)
 }
 
-// The line of an odd end.
-fn end(place: Place, room: &mut [u8]) {
-    if let Printed::Length(n) = disassembly::finish(place, room) {
-        write(checks::first(room, n));
+// Lists all of a piece, at the start of a room that is large enough.
+fn list_whole(place: Place, piece: &[u8], room: &mut [u8]) -> Advance
+    requires { ⌜ roomFor (length (now piece)) ≤ length (now room) ⌝ }
+    ensures { λ r. ⌜ r ≡ listedAll place (now (piece .entry)) ⌝ }
+    ensures { λ _. ⌜ now (room .exit) ≡ linesFor place (now (piece .entry)) ++ drop (length (linesFor place (now (piece .entry)))) (now (room .entry)) ⌝ }
+{
+    disassembly::list(place, piece, room)
+}
+
+// Puts the line of an odd end, if there is one, at the start of a room that holds it, and answers its length.
+fn put_end(place: Place, room: &mut [u8]) -> usize
+    requires { ⌜ endRoom ≤ length (now room) ⌝ }
+    ensures { λ r. ⌜ r ≡ length (endFor place) ⌝ }
+    ensures { λ _. ⌜ now (room .exit) ≡ endFor place ++ drop (length (endFor place)) (now (room .entry)) ⌝ }
+{
+    match disassembly::finish(place, room) {
+        Printed::Length(n) => n,
+        Printed::Refused(_) => 0,
     }
 }
 

@@ -12,7 +12,7 @@ use libc::STDOUT_FILENO;
 use text::Printed;
 
 // Room for the lines of 40,003 bytes in one piece.
-const ROOM: usize = 660066;
+const ROOM: usize = 10001 * disassembly::LONGEST_LINE;
 
 // A prime below 2^32.
 const MODULUS: u64 = 4294967291;

@@ -1,19 +1,28 @@
 -- `disassembly::finish` meets its contract: there is no odd end, no room for its line, or both. Assumes nothing.
-use mathlib.Core.Path.{_≡_, _∙_, sym, ap}
+use mathlib.Core.Path.{_≡_, _∙_, ap}
+use mathlib.Core.List.{List}
+use Prim.Native.Nat.{ℕ}
 use borrow.Author.Needs.{needs}
 use native.Mathlib.Omega.{arith}
-use Rattle.disassembly.proofs.Ends.{endText, no-end, end-refused, end-put}
+use Rattle.text.specs.Printing.{printedNumber, printedMissing, printedLength}
+use Rattle.text.specs.declared.Printed.{Printed}
+use Rattle.disassembly.proofs.Ends.{no-end, end-refused, end-put}
 use Rattle.disassembly.proofs.finish.Statement.{statement}
 use Rattle.disassembly.proofs.finish.Tie as tie
 
+-- an answer, with its number, sum and value
+told : {r s : Printed} {room after : List ℕ} → (r ≡ s) × (room ≡ after)
+    → (r ≡ s) × ((room ≡ after) × ((printedNumber r ≡ printedNumber s) × ((printedMissing r ≡ printedMissing s) × (printedLength r ≡ printedLength s))))
+told (e, f) = (e, (f, (ap printedNumber e, (ap printedMissing e, ap printedLength e))))
+
 returns : tie.Need-returns
-returns c = let a = c .before .before .before .args in no-end (a .place) (a .room .now) (omega (arith, c .before .count .ensures .0))
+returns c = let a = c .before .before .before .args in told (no-end (a .place) (a .room .now) (omega (arith, c .before .count .ensures .0)))
 
 returns-2 : tie.Need-returns-2
 returns-2 c =
     let n = c .before .before in
     let a = n .before .before .args in
-    end-refused (a .place) (a .room .now) (λ e. omega (arith, n .count .ensures .0)) (c .if2 .taken)
+    told (end-refused (a .place) (a .room .now) (λ e. omega (arith, n .count .ensures .0)) (c .if2 .taken))
 
 returns-3 : tie.Need-returns-3
 returns-3 c =
@@ -22,7 +31,7 @@ returns-3 c =
     let n = test .before .before in
     let a = n .before .before .args in
     let (r, t) = end-put (a .place) (a .room .now) (λ e. omega (arith, n .count .ensures .0)) (test .if2 .left) in
-    (rw (p .put .ensures .ends) r, p .put .ensures .text ∙ rw (n .count .ensures .0) t)
+    told (rw (p .put .ensures .ends) r, p .put .ensures .text ∙ rw (n .count .ensures .0) t)
 
 pub finish-spec : {M : Type 1} → statement M
 finish-spec =

@@ -4,7 +4,7 @@ use native.Mathlib.Omega.{arith}
 use borrow.Author.Needs.{needs}
 use lib.ListN.{length}
 use Rattle.disassembly.specs.Claims.{roomFor}
-use Rattle.lister.specs.Steps.{mostRead}
+use Rattle.lister.specs.Reads.{mostRead}
 use Rattle.lister.proofs.main.Statement.{statement}
 use Rattle.lister.proofs.main.Tie as tie
 
@@ -22,7 +22,8 @@ main-spec =
     μ-loop
     (λ c κs. tt)
     (λ c κs. tt)
-    (λ c. c .before .lines-room .ensures)
+    (λ c κs. tt)
+    (λ c. c .before .before .lines-room .ensures)
     (λ c. c .before .before .loop .inv)
     (λ c κs. omega arith)
     (λ c. search needs)

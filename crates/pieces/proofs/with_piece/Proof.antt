@@ -3,7 +3,7 @@ use mathlib.Core.Path.{ap}
 use native.Mathlib.Omega.{arith}
 use borrow.Author.Needs.{needs}
 use lib.ListN.{length}
-use Rattle.disassembly.specs.declared.Listed.{Listed}
+use Rattle.disassembly.specs.declared.Advance.{Advance}
 use Rattle.disassembly.proofs.Theorems.{suffices}
 use Rattle.pieces.proofs.with_piece.Statement.{statement}
 use Rattle.pieces.proofs.with_piece.Tie as tie
@@ -13,7 +13,7 @@ returns c =
     let l = c .before .before .before .before .before .before in
     let s = l .before .before .before .before .before .before in
     let most = suffices (s .args .so-far .place) (s .args .piece .now) .most-taken (length (s .args .room .now)) in
-    omega (arith, ap (λ (r : Listed). r .taken) (l .list .ensures .0))
+    omega (arith, ap (λ (r : Advance). r .taken) (l .list .ensures .0))
 
 pub with-piece-spec : {M : Type 1} → statement M
 with-piece-spec =

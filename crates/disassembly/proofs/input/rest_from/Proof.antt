@@ -4,9 +4,9 @@ use mathlib.Core.List.{List, [], _∷_, _++_}
 use Prim.Native.Nat.{ℕ, _+_}
 use borrow.Author.Needs.{needs}
 use native.Mathlib.Omega.{arith}
-use lib.ListN.{length, length-append}
+use lib.ListN.{length, length-append, drop-of-length-le}
 use Rattle.disassembly.specs.Pieces.{pending}
-use Rattle.disassembly.proofs.Inputs.{no-more, last-one, last-two, last-three}
+use Rattle.disassembly.proofs.Inputs.{last-one, last-two, last-three}
 use Rattle.disassembly.proofs.input.rest_from.Statement.{statement}
 use Rattle.disassembly.proofs.input.rest_from.Tie as tie
 
@@ -19,7 +19,7 @@ module _ (c : tie.After-count) where
   all = length-append (pending (c .before .before .args .begun)) (c .before .before .args .piece .now) ∙ rw (c .count .ensures .0)
 
 returns : tie.Need-returns
-returns c = sym (no-more (bytes (c .before)) (c .before .before .before .args .i) (omega (arith, all (c .before))))
+returns c = sym (drop-of-length-le (bytes (c .before)) {i = c .before .before .before .args .i} (omega (arith, all (c .before))))
 
 returns-2 : tie.Need-returns-2
 returns-2 c =

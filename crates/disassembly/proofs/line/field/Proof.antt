@@ -1,6 +1,5 @@
 -- `disassembly::line::field` meets its contract: digit by digit. Assumes nothing.
 use borrow.Author.Needs.{needs}
-use mathlib.Core.Path.{_≡_}
 use native.Mathlib.Nat.{div-one}
 use Rattle.disassembly.specs.Listing.{hexadecimal}
 use Rattle.disassembly.proofs.line.field.Statement.{statement}

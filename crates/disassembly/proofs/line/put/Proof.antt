@@ -1,8 +1,7 @@
 -- `disassembly::line::put` meets its contract: the copy to a part of the room, said of the whole. Assumes nothing.
 use borrow.Author.Needs.{needs}
-use mathlib.Core.Path.{_≡_, _∙_, ap}
+use mathlib.Core.Path.{_∙_}
 use native.Mathlib.Omega.{arith}
-use lib.ListN.{length}
 use lib.Seq.{take-length}
 use Rattle.disassembly.proofs.Rooms.{part-is, put-back}
 use Rattle.disassembly.proofs.line.put.Statement.{statement}

@@ -1,0 +1,5 @@
+-- How much is read at once.
+use Prim.Native.Nat.{ℕ}
+
+abbrev pub mostRead : ℕ
+mostRead = 4096
