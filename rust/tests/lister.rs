@@ -1,5 +1,5 @@
-//! Holds the program `lister`, which `rt check lister` leaves in target/bin, against the independent implementation: the same
-//! words in pieces of every size, as a pipe hands them over.
+//! Holds the program `lister`, which `rt check lister` leaves in target/bin, against the independent implementation: words in
+//! pieces of random sizes, as a pipe hands them over.
 
 #[allow(dead_code, unused_imports)]
 mod pseudocode;
@@ -39,7 +39,7 @@ fn pieces() {
 fn byte_by_byte() {
     let random = &mut Random::new(1);
     let bytes: Vec<u8> = (0..64).flat_map(|_| sample::listed(random).to_le_bytes()).chain([5, 6]).collect();
-    let (mut child, mut input, mut output) = start();
+    let (child, mut input, mut output) = start();
     let mut text = String::new();
     for end in 1..=bytes.len() {
         input.write_all(&bytes[end - 1..end]).expect("the program reads all of its input");
@@ -53,7 +53,7 @@ fn byte_by_byte() {
     }
     drop(input);
     output.read_to_string(&mut text).expect("the end");
-    assert!(child.wait().expect("the program ends").success());
+    assert_silent(child);
     assert_eq!(text, listing(&bytes));
 }
 
@@ -108,7 +108,7 @@ fn listing(bytes: &[u8]) -> String {
     text
 }
 
-/// Up to so many words as bytes, and up to three bytes more.
+/// Fewer than so many words as bytes, and up to three bytes more.
 fn words(random: &mut Random, most: u64) -> Vec<u8> {
     let (count, odd) = (random.below(most), random.below(4) as usize);
     let words: Vec<u8> = (0..count).flat_map(|_| sample::word(random, 5).to_le_bytes()).collect();
@@ -137,7 +137,12 @@ fn listed(bytes: &[u8], feed: impl FnOnce(&[u8], &mut ChildStdin) + Send) -> Str
         scope.spawn(move || feed(bytes, &mut input));
         output.read_to_string(&mut text).expect("ASCII");
     });
+    assert_silent(child);
+    text
+}
+
+/// The program ends well, and told nothing.
+fn assert_silent(child: Child) {
     let ended = child.wait_with_output().expect("the program ends");
     assert!(ended.status.success() && ended.stderr.is_empty(), "{}", String::from_utf8_lossy(&ended.stderr));
-    text
 }

@@ -16,7 +16,7 @@ use Rattle.disassembly.proofs.Rooms.{at-front}
 use Rattle.disassembly.proofs.Inputs.{begun-short}
 
 -- `end`, a space, a digit and a line feed
-abbrev pub endText : ℕ → Text
+abbrev endText : ℕ → Text
 endText n = 101 ∷ 110 ∷ 100 ∷ 32 ∷ (48 + n) ∷ 10 ∷ []
 
 end-text : (n : ℕ) → (n ≡ 0 → ⊥) → n ≤ 3 → endLine n ≡ endText n

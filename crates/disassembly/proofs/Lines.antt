@@ -38,7 +38,7 @@ pub features-on : (w : ℕ) → FeaturesOn allFlags w
 features-on w e m q f n = every-feature f
 
 -- with every feature on, a word that is refused is not listed
-pub refused-unlisted : (w : ℕ) (r : Refusal) → decodeOf allFlags w ≡ NotDecoded r → r ≡ Unlisted
+refused-unlisted : (w : ℕ) (r : Refusal) → decodeOf allFlags w ≡ NotDecoded r → r ≡ Unlisted
 refused-unlisted w r p = go (absent (describe w)) (rw (decodes allFlags w .missing-none .1 (features-on w)) at (decode-refused allFlags w r p))
   where
     go : (b : Bool) → cond b (some Unlisted) none ≡ some r → r ≡ Unlisted
@@ -55,11 +55,11 @@ unfolding said
 said-unlisted w p = rw p
 
 -- and by its answer
-pub said-accepted : (w : ℕ) (i : Instruction) → decodeOf allFlags w ≡ Accepted i → said w ≡ spelling i
+said-accepted : (w : ℕ) (i : Instruction) → decodeOf allFlags w ≡ Accepted i → said w ≡ spelling i
 unfolding said
 said-accepted w i p = rw p (accepted-text allFlags w i p)
 
-pub said-refused : (w : ℕ) (r : Refusal) → decodeOf allFlags w ≡ NotDecoded r → said w ≡ ascii "-7"
+said-refused : (w : ℕ) (r : Refusal) → decodeOf allFlags w ≡ NotDecoded r → said w ≡ ascii "-7"
 unfolding said
 said-refused w r p = rw (p, refused-unlisted w r p)
 

@@ -26,7 +26,7 @@ module _ {before after : List ℕ} {at next : ℕ} where
   put-as p e = record { ends = rw (← e) (p .ends); text = rw (← e) (p .text) }
 
 -- what a call left at the start of the part that it was lent, said of the whole room
-pub part-set : (room : List ℕ) (i : ℕ) (t : List ℕ) → i + length t ≤ length room → take i room ++ (t ++ drop (length t) (drop i room)) ≡ sets room i t
+part-set : (room : List ℕ) (i : ℕ) (t : List ℕ) → i + length t ≤ length room → take i room ++ (t ++ drop (length t) (drop i room)) ≡ sets room i t
 part-set room i t h =
     ap (λ (r : List ℕ). take i room ++ (t ++ r)) (drop-drop (length t) i room)
     ∙ sym (append-assoc (take i room) t (drop (i + length t) room))
@@ -40,7 +40,7 @@ at-front room t h = sym (part-set room 0 t (omega arith))
 pub part-is : (room : List ℕ) (i : ℕ) → take (length room - i) (drop i room) ≡ drop i room
 part-is room i = take-all (length room - i) (drop i room) (omega (arith, length-drop i room))
 
-pub part-back : (room part : List ℕ) (i : ℕ) → putMid i (length room - i) room part ≡ take i room ++ part
+part-back : (room part : List ℕ) (i : ℕ) → putMid i (length room - i) room part ≡ take i room ++ part
 part-back room part i =
     let e : drop (length room - i) (drop i room) ≡ [] = drop-of-length-le (drop i room) {i = length room - i} (omega (arith, length-drop i room)) in
     ap (λ (r : List ℕ). take i room ++ (part ++ r)) e ∙ ap (λ (r : List ℕ). take i room ++ r) (append-nil part)

@@ -3,7 +3,7 @@
 use mathlib.Core.Path.{_≡_, _∙_, sym, ap, refl}
 use mathlib.Core.Bool.{Bool, true, false}
 use mathlib.Core.List.{List, [], _∷_, _++_, append-assoc, append-nil, map, flatten}
-use Prim.Native.Nat.{ℕ, _+_, _-_, _*_, _/_, _%_, _^_, _≤_, min}
+use Prim.Native.Nat.{ℕ, _+_, _*_, _/_, _%_, _^_, _≤_, min}
 use native.Mathlib.Omega.{arith}
 use native.Mathlib.Nat.{min-le-left, min-le-right, min-eq-left}
 use borrow.Author.Tests.{ltb-true, ltb-false}
@@ -61,7 +61,7 @@ module _ (p : Place) (piece : List ℕ) where
       let l : n ≤ most p room = omega (arith, begun-short (p .begun)) in
       rw (min-eq-left l) (take-all n piece (omega arith))
 
-  pub taken-length : (room : ℕ) → length (takenPart p piece room) ≡ min n (most p room)
+  taken-length : (room : ℕ) → length (takenPart p piece room) ≡ min n (most p room)
   taken-length room = length-take-le (min n (most p room)) piece (min-le-left _ _)
 
   pub taken-fits : (room : ℕ) → length (joined p (takenPart p piece room)) ≤ 4 * (room / longestLine) + 3

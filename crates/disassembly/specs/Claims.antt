@@ -69,7 +69,7 @@ pub record Suffices (p : Place) (piece : List ℕ) : Type 0 where
   pub most-words : length (joined p piece) / 4 ≤ (length piece + 3) / 4
   pub most-lines : length (linesFor p piece) ≤ longestLine * (length (joined p piece) / 4)
 
--- ---- the end: 12 exactly where the room is shorter than its line, which it leaves as it was; otherwise the line is there
+-- ---- the end: 12 exactly where the room is shorter than its line, and then the room stays as it was; otherwise the line is there
 pub record Finishes (p : Place) (room : List ℕ) : Type 0 where
   pub accepts : (finishNumber p (length room) ≡ 0) ↔ (length (endFor p) ≤ length room)
   pub gives-12 : (finishNumber p (length room) ≡ 12) ↔ (length room < length (endFor p))

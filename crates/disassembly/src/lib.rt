@@ -44,9 +44,8 @@ pub fn start() -> Place
     }
 }
 
-// Puts the lines of the words that a piece completes at the start of room; the bytes after them stay. No more of the piece is
-// taken than has room whatever the words are: a room of LONGEST_LINE for each word that it may complete takes all of it, and a
-// room of one LONGEST_LINE some of it.
+// Puts the lines of the words that a piece completes at the start of room; the bytes after them stay. No more of it is taken than
+// has room whatever the words are: LONGEST_LINE for each word that it may complete takes all of it.
 pub fn list(place: Place, piece: &[u8], room: &mut [u8]) -> Advance
     ensures { λ r. ⌜ r ≡ listOf place (now (piece .entry)) (length (now (room .entry))) ⌝ }
     ensures { λ _. ⌜ now (room .exit) ≡ roomListed place (now (piece .entry)) (now (room .entry)) ⌝ }

@@ -1,6 +1,6 @@
 // Lists standard input whole, then cut into pieces of several sizes and into rooms of several sizes, and writes of each listing how
-// many lines and bytes it has, and a checksum of its bytes. Then it writes the listings of the first 0 to 4 bytes. The input has the
-// words of the program `words` and an odd end; what must be written comes from tools/pieces, which takes the texts from there.
+// many calls it took, how many lines and bytes it has, and a checksum of its bytes; then the listings of the first 0 to 4 bytes.
+// The input is the words of the program `words` and an odd end; what must be written comes from tools/pieces.
 ghost use mathlib.Core.Path.{_≡_};
 ghost use Prim.Native.Nat.{_≤_};
 ghost use lib.ListN.{length};
@@ -17,8 +17,9 @@ const ROOM: usize = 10001 * disassembly::LONGEST_LINE;
 // A prime below 2^32.
 const MODULUS: u64 = 4294967291;
 
-// A listing's lines and bytes, and a checksum that changes where two bytes are exchanged.
+// How many calls a listing took, its lines and bytes, and a checksum that changes where two bytes are exchanged.
 pub struct Sum {
+    pub calls: u64,
     pub lines: u64,
     pub bytes: u64,
     pub checksum: u64,
@@ -92,7 +93,8 @@ fn in_room(bytes: &[u8], room: &mut [u8]) {
 }
 
 fn report(sum: Sum) {
-    part(b": lines ", sum.lines);
+    part(b": calls ", sum.calls);
+    part(b", lines ", sum.lines);
     part(b", bytes ", sum.bytes);
     checks::count(b", checksum ", sum.checksum);
 }
@@ -116,6 +118,7 @@ fn nothing() -> Progress {
     Progress {
         place: disassembly::start(),
         sum: Sum {
+            calls: 0,
             lines: 0,
             bytes: 0,
             checksum: 0,
@@ -134,8 +137,17 @@ fn with_piece(so_far: Progress, piece: &[u8], room: &mut [u8]) -> Progress
     let behind = listed.place;
     Progress {
         place: behind,
-        sum: with_text(sum, checks::first(room, listed.written)),
+        sum: with_text(with_call(sum), checks::first(room, listed.written)),
         taken: listed.taken,
+    }
+}
+
+fn with_call(sum: Sum) -> Sum {
+    Sum {
+        calls: plus(sum.calls, 1),
+        lines: sum.lines,
+        bytes: sum.bytes,
+        checksum: sum.checksum,
     }
 }
 
@@ -159,6 +171,7 @@ fn with_text(sum: Sum, text: &[u8]) -> Sum {
 
 fn with_byte(sum: Sum, byte: u8) -> Sum {
     Sum {
+        calls: sum.calls,
         lines: plus(sum.lines, checks::one_if(byte == b'\n')),
         bytes: plus(sum.bytes, 1),
         checksum: (sum.checksum % MODULUS * 257 + checks::wide(byte)) % MODULUS,

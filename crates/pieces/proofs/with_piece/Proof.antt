@@ -10,11 +10,18 @@ use Rattle.pieces.proofs.with_piece.Tie as tie
 
 returns : tie.Need-returns
 returns c =
-    let l = c .before .before .before .before .before .before in
+    let l = c .before .before .before .before .before .before .before in
     let s = l .before .before .before .before .before .before in
     let most = suffices (s .args .so-far .place) (s .args .piece .now) .most-taken (length (s .args .room .now)) in
     omega (arith, ap (λ (r : Advance). r .taken) (l .list .ensures .0))
 
 pub with-piece-spec : {M : Type 1} → statement M
 with-piece-spec =
-    tie.close (tie.spec (λ c κs. search needs) (λ c κs. search needs) (λ c κs. search needs) (λ c. search needs) returns)
+    tie.close
+    (tie.spec
+    (λ c κs. search needs)
+    (λ c κs. search needs)
+    (λ c κs. search needs)
+    (λ c κs. search needs)
+    (λ c. search needs)
+    returns)
