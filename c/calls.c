@@ -302,6 +302,90 @@ static void orders(void) {
     expect("order_matters, flags", birdaghol_order_matters(16, za3_s, za7_d), false);
 }
 
+enum { CAPTURE = 25 + 2 * 4 + 32 * VB + 2 * VB + VB * VB };
+
+/* What a capture of two words holds, and room for a third. */
+struct contents {
+    uint32_t words[3];
+    uint8_t z[32 * VB], p[2 * VB], za[VB * VB];
+};
+
+/* The file of two words, Z, P and ZA. */
+static uint64_t capture_write(uint32_t flags, size_t vb, const struct contents *c, uint8_t *file, size_t room) {
+    return birdaghol_capture_write(flags, true, true, vb, c->words, 2, c->z, sizeof c->z, c->p, sizeof c->p, c->za,
+                                   sizeof c->za, file, room);
+}
+
+/* The contents of a file, with room for so many words. */
+static uint64_t capture_read(const uint8_t *file, size_t length, struct contents *c, size_t words_len) {
+    return birdaghol_capture_read(file, length, c->words, words_len, c->z, sizeof c->z, c->p, sizeof c->p, c->za,
+                                  sizeof c->za);
+}
+
+/* A capture is written to a room with a byte to spare; where it is refused, the room stays as it was. */
+static void captures_written(const struct contents *held, uint8_t file[CAPTURE + 1]) {
+    const uint8_t head[] = {1,    0,    0,    0,    4,    7,    3,    0x00, 0x10, 0, 0, 0, 8,
+                            0xC0, 0x08, 0x00, 0xFF, 0xA0, 0xA0, 0x00, 0x00, 0,    0, 2, 0};
+    uint8_t before[CAPTURE + 1];
+    memset(file, 0xA5, CAPTURE + 1);
+    memset(before, 0xA5, CAPTURE + 1);
+    expect("capture_write, flags", capture_write(16, 15, held, file, 0), packed(0, 0, 1));
+    expect("capture_write, a length", capture_write(7, 15, held, file, 0), packed(0, 0, 2));
+    expect("capture_write, no room", capture_write(7, VB, held, file, CAPTURE - 1), packed(0, 0, 12));
+    expect("capture_write, its room", (uint64_t)memcmp(file, before, CAPTURE + 1), 0);
+    expect("capture_write", capture_write(7, VB, held, file, CAPTURE + 1), packed(CAPTURE, 0, 0));
+    expect("capture_write, its head", (uint64_t)memcmp(file, head, sizeof head), 0);
+    expect("capture_write, its Z", (uint64_t)memcmp(file + sizeof head, held->z, sizeof held->z), 0);
+    expect("capture_write, its ZA", (uint64_t)memcmp(file + CAPTURE - sizeof held->za, held->za, sizeof held->za), 0);
+    expect("capture_write, the byte behind", file[CAPTURE], 0xA5);
+}
+
+/* The same file is read back; where it is refused, all four buffers stay as they were. */
+static void captures_read(const struct contents *held, const uint8_t file[CAPTURE + 1]) {
+    struct contents lent, before;
+    memset(&lent, 0xA5, sizeof lent);
+    memset(&before, 0xA5, sizeof before);
+    expect("capture_read, another version", capture_read(file + 1, CAPTURE - 1, &lent, 1), packed(0, 0, 15));
+    expect("capture_read, nothing", capture_read(file, 0, &lent, 1), packed(0, 0, 16));
+    expect("capture_read, a byte missing", capture_read(file, CAPTURE - 1, &lent, 1), packed(0, 0, 16));
+    expect("capture_read, a byte left over", capture_read(file, CAPTURE + 1, &lent, 1), packed(0, 0, 16));
+    expect("capture_read, no room", capture_read(file, CAPTURE, &lent, 1), packed(0, 0, 12));
+    expect("capture_read, its buffers", (uint64_t)memcmp(&lent, &before, sizeof lent), 0);
+    expect("capture_read", capture_read(file, CAPTURE, &lent, 3), packed(2 * 65536 + VB * 64 + 3 * 16 + 7, 0, 0));
+    expect("capture_read, its contents", (uint64_t)memcmp(&lent, held, sizeof lent), 0);
+}
+
+/* Two words, and what the third holds from the start. */
+static void captures(void) {
+    struct contents held = {{ZERO, SUMOPA, 0xA5A5A5A5}, {0}, {0}, {0}};
+    uint8_t file[CAPTURE + 1];
+    memset(held.z, 0x11, sizeof held.z);
+    memset(held.p, 0x22, sizeof held.p);
+    memset(held.za, 0x33, sizeof held.za);
+    captures_written(&held, file);
+    captures_read(&held, file);
+}
+
+/* The longest file, of the list above with ZA on and streaming mode off, whose answer the header's macros take apart. */
+static void longest_capture(void) {
+    static uint8_t file[BIRDAGHOL_LONGEST_CAPTURE], z256[32 * 256], p256[2 * 256], za256[256 * 256];
+    static uint32_t list[MOST_WORDS];
+    uint64_t answer = birdaghol_capture_write(15, false, true, 256, list_too_long, MOST_WORDS, z256, sizeof z256, p256,
+                                              sizeof p256, za256, sizeof za256, file, sizeof file);
+    expect("capture_write, the longest", answer, packed(BIRDAGHOL_LONGEST_CAPTURE, 0, 0));
+    answer = birdaghol_capture_read(file, sizeof file, list, MOST_WORDS, z256, sizeof z256, p256, sizeof p256, za256,
+                                    sizeof za256);
+    expect("BIRDAGHOL_REFUSAL", BIRDAGHOL_REFUSAL(answer), 0);
+    expect("BIRDAGHOL_CAPTURE_WORDS", BIRDAGHOL_CAPTURE_WORDS(answer), MOST_WORDS);
+    expect("BIRDAGHOL_CAPTURE_VB", BIRDAGHOL_CAPTURE_VB(answer), 256);
+    expect("BIRDAGHOL_CAPTURE_MODES", BIRDAGHOL_CAPTURE_MODES(answer), 2);
+    expect("BIRDAGHOL_CAPTURE_FLAGS", BIRDAGHOL_CAPTURE_FLAGS(answer), 15);
+    expect("capture_read, the longest list", (uint64_t)memcmp(list, list_too_long, sizeof list), 0);
+    answer = birdaghol_capture_write(15, false, true, 256, list_too_long, MOST_WORDS + 1, z256, sizeof z256, p256,
+                                     sizeof p256, za256, sizeof za256, file, 0);
+    expect("capture_write, 65,537 words", answer, packed(0, 0, 6));
+}
+
 int main(void) {
     words();
     lines();
@@ -314,6 +398,8 @@ int main(void) {
     lists_not_cleared();
     longest_lists();
     orders();
+    captures();
+    longest_capture();
     puts(wrong ? "calls from C: wrong" : "calls from C: as they should be");
     return wrong;
 }

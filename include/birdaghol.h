@@ -1,21 +1,24 @@
-/* Birdaghol for C: Arm SME integer outer products, decoded, encoded, printed, read and replayed by proved code.
+/* Birdaghol for C: Arm SME integer outer products, decoded, encoded, printed, read and replayed, and kept in capture
+   files, by proved code.
    Link target/staticlib/libbirdaghol.a, which `rt staticlib birdaghol` writes, into programs for x86-64.
 
    Flags are the sum of the features that are on: 1 SME, 2 I16I64, 4 MOP4, 8 SME2. vb is the vector length in bytes.
    z has 32 * vb bytes, register by register; p has 2 * vb bytes, 16 predicates of one bit for each vector byte, lowest
    first; za has vb rows of vb bytes. Numbers in them are little-endian.
 
-   Refusals, in the order of the tests, but for 13, which is tested before 8: 1 flags above 15; 2 vb not 16, 32, 64, 128
-   or 256; 3, 4, 5 z, p, za of another length; 6 a list of over 65,536 words; 7 a word that is not listed; 8 a word that
-   needs a feature that is off; 9 an outer product with streaming mode off; 10 ZA off; 11 a field out of range; 12 a
-   room shorter than the text, or fewer fields than BIRDAGHOL_FIELDS; 13 a line that is no listed word's text; 14 in a
-   list, an outer product on a tile with a row that no ZERO before it has cleared.
+   Refusals, in the order of the tests, but for 13, which is tested before 8, and 15 and 16, which are tested, in this
+   order, before 12: 1 flags above 15; 2 vb not 16, 32, 64, 128 or 256; 3, 4, 5 z, p, za of another length; 6 a list of
+   over 65,536 words; 7 a word that is not listed; 8 a word that needs a feature that is off; 9 an outer product with
+   streaming mode off; 10 ZA off; 11 a field out of range; 12 a room shorter than the text, fewer fields than
+   BIRDAGHOL_FIELDS, or a buffer shorter than a capture file or than what a file holds for it; 13 a line that is no
+   listed word's text; 14 in a list, an outer product on a tile with a row that no ZERO before it has cleared; 15 a file
+   of another version than 1; 16 a file that is no capture, an empty one too.
 
    Every function but birdaghol_order_matters answers value * 65536 + missing * 256 + refusal, and BIRDAGHOL_VALUE,
    BIRDAGHOL_MISSING and BIRDAGHOL_REFUSAL take it apart:
-   - value: a length from birdaghol_print, a word from birdaghol_read and the encode functions, and how many words were
-     executed from birdaghol_run. 0 from birdaghol_decode, birdaghol_describe and birdaghol_execute; 0 beside a refusal,
-     but for birdaghol_run;
+   - value: a length from birdaghol_print and birdaghol_capture_write, a word from birdaghol_read and the encode
+     functions, how many words were executed from birdaghol_run, and four numbers in one from birdaghol_capture_read.
+     0 from birdaghol_decode, birdaghol_describe and birdaghol_execute; 0 beside a refusal, but for birdaghol_run;
    - missing: beside refusal 8, the sum of the flags that the word needs and that are off; otherwise 0. For A1C0001F,
      which needs 2 and 4, birdaghol_decode answers 2 * 256 + 8 with flags 4, and 6 * 256 + 8 with flags 0;
    - refusal: one of the numbers above, or 0 for none.
@@ -95,6 +98,31 @@ uint64_t birdaghol_run(uint32_t flags, bool streaming, bool za_on, size_t vb, co
    orders end differently; otherwise the order of two accepted outer products never changes za. No refusal: false for
    any other word, of whose order it says nothing, a ZERO's too, and for flags above 15. */
 bool birdaghol_order_matters(uint32_t flags, uint32_t a, uint32_t b);
+
+/* A capture file is what a run takes, as bytes: the version, 1, then five parts, each behind its length in bytes, which
+   is a number of 32 bits. The first part is flags, modes (1 streaming, 2 ZA, summed) and vb, in one byte, one and two;
+   the others are words, z, p and za. Lengths, words and vb are big-endian. */
+
+/* The bytes of the longest file, that of 65,536 words at vb 256; others have 25 + 4 * words + 34 * vb + vb * vb. */
+#define BIRDAGHOL_LONGEST_CAPTURE 336409
+
+/* Puts the file of a capture at the start of file; later bytes stay. Value: its length. Refusal: 1 to 6, as
+   birdaghol_run, or 12, which leaves all of file as it was. */
+uint64_t birdaghol_capture_write(uint32_t flags, bool streaming, bool za_on, size_t vb, const uint32_t *words,
+                                 size_t words_len, const uint8_t *z, size_t z_len, const uint8_t *p, size_t p_len,
+                                 const uint8_t *za, size_t za_len, uint8_t *file, size_t file_len);
+
+/* What birdaghol_capture_read answers, taken apart: how many words there are, vb, modes and flags. */
+#define BIRDAGHOL_CAPTURE_WORDS(answer) (BIRDAGHOL_VALUE(answer) / 65536)
+#define BIRDAGHOL_CAPTURE_VB(answer) (BIRDAGHOL_VALUE(answer) / 64 % 1024)
+#define BIRDAGHOL_CAPTURE_MODES(answer) (BIRDAGHOL_VALUE(answer) / 16 % 4)
+#define BIRDAGHOL_CAPTURE_FLAGS(answer) (BIRDAGHOL_VALUE(answer) % 16)
+
+/* Puts what a file holds at the starts of words, z, p and za; what they hold past it stays. Value: words * 65536 +
+   vb * 64 + modes * 16 + flags. Refusal: 15, 16 or 12, tested in this order, which leaves all four as they were. A file
+   of version 1 is a capture only if it is, to its last byte, what birdaghol_capture_write puts for one. */
+uint64_t birdaghol_capture_read(const uint8_t *file, size_t file_len, uint32_t *words, size_t words_len, uint8_t *z,
+                                size_t z_len, uint8_t *p, size_t p_len, uint8_t *za, size_t za_len);
 
 #ifdef __cplusplus
 }

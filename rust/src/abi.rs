@@ -76,4 +76,34 @@ unsafe extern "C" {
         words: *const u32,
         words_len: usize,
     ) -> u64;
+
+    pub fn birdaghol_capture_write(
+        flags: u32,
+        streaming: bool,
+        za_on: bool,
+        vb: usize,
+        words: *const u32,
+        words_len: usize,
+        z: *const u8,
+        z_len: usize,
+        p: *const u8,
+        p_len: usize,
+        za: *const u8,
+        za_len: usize,
+        file: *mut u8,
+        file_len: usize,
+    ) -> u64;
+
+    pub fn birdaghol_capture_read(
+        file: *const u8,
+        file_len: usize,
+        words: *mut u32,
+        words_len: usize,
+        z: *mut u8,
+        z_len: usize,
+        p: *mut u8,
+        p_len: usize,
+        za: *mut u8,
+        za_len: usize,
+    ) -> u64;
 }

@@ -1,12 +1,14 @@
 //! Safe functions over slices for Birdaghol's proved library, which replays Arm SME integer outer products on a bench.
 //!
-//! Any word, line, flags, modes, vector length, buffers and lists may be handed in. Bad input gets a [`Refusal`], and a
-//! refusal changes no byte; only a list stopped in its middle leaves ZA as the words before the stop left it.
+//! Any word, line, flags, modes, vector length, buffers, lists and files may be handed in. Bad input gets a [`Refusal`],
+//! and a refusal changes no byte; only a list stopped in its middle leaves ZA as the words before the stop left it.
 //! [`order_matters`] refuses nothing, and answers false.
 
 mod abi;
+mod capture;
 mod refusal;
 
+pub use capture::{Capture, Contents, LONGEST_CAPTURE, capture_read, capture_write};
 pub use refusal::Refusal;
 
 /// The examples of the repository's front page, compiled and run.

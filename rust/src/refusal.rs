@@ -7,7 +7,8 @@ use std::fmt;
 const FEATURES: [(u32, &str); 4] = [(1, "SME"), (2, "I16I64"), (4, "MOP4"), (8, "SME2")];
 
 /// Why an input was refused; the tests are made in this order, but for `NotText`, which comes before `FeatureOff`, and
-/// the first that applies is given. Only runs are refused by `NotCleared`.
+/// `Version` and `Format`, which come before `Room`, and the first that applies is given. Only runs are refused by
+/// `NotCleared`, only capture files by `Version` and `Format`.
 #[derive(Clone, Copy, Debug, PartialEq, Eq)]
 pub enum Refusal {
     Flags,
@@ -27,6 +28,8 @@ pub enum Refusal {
     Room,
     NotText,
     NotCleared,
+    Version,
+    Format,
 }
 
 impl Refusal {
@@ -47,6 +50,8 @@ impl Refusal {
             Refusal::Room => 12,
             Refusal::NotText => 13,
             Refusal::NotCleared => 14,
+            Refusal::Version => 15,
+            Refusal::Format => 16,
         }
     }
 
@@ -78,6 +83,8 @@ impl Refusal {
             12 => Refusal::Room,
             13 => Refusal::NotText,
             14 => Refusal::NotCleared,
+            15 => Refusal::Version,
+            16 => Refusal::Format,
             _ => unreachable!("there is no refusal {number}"),
         };
         Some(refusal)
@@ -102,6 +109,8 @@ impl fmt::Display for Refusal {
             Refusal::Room => "the room is too short",
             Refusal::NotText => "the line is the text of no listed word",
             Refusal::NotCleared => "the tile has a row that no earlier ZERO of the list cleared",
+            Refusal::Version => "the file has another version than 1",
+            Refusal::Format => "the file is no capture",
         })
     }
 }

@@ -3,16 +3,15 @@
 #[allow(dead_code)]
 #[path = "../src/abi.rs"]
 mod abi;
+#[allow(dead_code, unused_imports)]
 mod pseudocode;
+#[allow(dead_code, unused_imports)]
 mod sample;
 
 use birdaghol::{Bench, Operation, Refusal, Source};
 use pseudocode::{Instruction, MOST_WORDS, OuterProduct, Refused, Sources};
-use sample::{Case, DAMAGES, Guarded, Random, Tally, seeds};
+use sample::{Case, DAMAGES, Guarded, LENGTHS, Random, Tally, packed, refused, seeds};
 use std::fmt::{Arguments, Debug};
-
-/// The vector lengths, short ones more often.
-const LENGTHS: [usize; 9] = [16, 16, 16, 32, 32, 64, 64, 128, 256];
 
 /// A word gets the same answer under any flags, as C gets it too.
 #[test]
@@ -25,7 +24,7 @@ fn decode() {
         let answer = birdaghol::decode(flags, word).map_err(refused);
         assert_eq!(answer, expected, "seed {seed}: flags {flags}, word {word:08x}");
         let answer = abi::birdaghol_decode(flags, word);
-        assert_eq!(answer, packed(expected), "seed {seed}: flags {flags}, word {word:08x}");
+        assert_eq!(answer, packed(expected.map(|()| 0)), "seed {seed}: flags {flags}, word {word:08x}");
         tally.count(word, &expected);
     }
     tally.assert_covers(&[1, 7, 8], 10_000);
@@ -88,7 +87,7 @@ fn read_damaged_lines() {
     }
     tally.assert_covers(&[1, 8, 13], 500);
     tally.assert_missing(200);
-    tally.assert_damaged(10_000, 100);
+    tally.assert_damaged(&DAMAGES, 10_000, 100);
 }
 
 /// Every listed word is printed and read back, on both sides. The start of its text is refused, though the rest lies
@@ -155,7 +154,7 @@ fn describe_in_rooms() {
         let lent = room.lend();
         // SAFETY: the address and the length are those of one slice, lent for this call alone.
         let answer = unsafe { abi::birdaghol_describe(flags, word, lent.as_mut_ptr(), lent.len()) };
-        assert_eq!(answer, packed(expected), "{case}");
+        assert_eq!(answer, packed(expected.map(|()| 0)), "{case}");
         assert!(room.holds(&fields), "{case}: other numbers");
         tally.count(word, &expected);
     }
@@ -199,7 +198,7 @@ fn execute() {
             &case,
             &format!("seed {seed}: {:?}, word {word:08x}", case.bench),
             |z, p, za| pseudocode::execute(case.bench, z, p, za, word),
-            |z, p, za| birdaghol::execute(bench(&case), z, p, za, word).map_err(refused),
+            |z, p, za| birdaghol::execute(sample::bench(case.bench), z, p, za, word).map_err(refused),
         );
         tally.count(word, &expected);
         tally.accept_at(case.bench.vb, usize::from(expected.is_ok()));
@@ -245,7 +244,8 @@ fn run_from_another_za() {
 
         let starts = [case.za.clone(), random.bytes(case.za.len())];
         let mut left = starts.clone();
-        let [one, other] = left.each_mut().map(|za| birdaghol::run(bench(&case), &case.z, &case.p, za, &words));
+        let bench = sample::bench(case.bench);
+        let [one, other] = left.each_mut().map(|za| birdaghol::run(bench, &case.z, &case.p, za, &words));
         assert_eq!(one, other, "seed {seed}: {:?}", case.bench);
 
         let cleared = words[..one.count].iter().fold(0, |mask, &word| mask | sample::zero_mask(word));
@@ -341,7 +341,7 @@ fn run_both(seed: u64, case: &Case, words: &[u32]) -> (usize, Option<Refused>) {
         &label,
         |z, p, za| pseudocode::run(case.bench, z, p, za, words),
         |z, p, za| {
-            let ended = birdaghol::run(bench(case), z, p, za, words);
+            let ended = birdaghol::run(sample::bench(case.bench), z, p, za, words);
             (ended.count, ended.refusal.map(refused))
         },
     );
@@ -364,21 +364,6 @@ fn compare<T: PartialEq + Debug>(
     assert!(za.holds(&left), "{label}: another ZA, or a guard fell");
     assert!(z.holds(&case.z) && p.holds(&case.p), "{label}: Z or P was written");
     expected
-}
-
-/// A refusal of the library as the independent implementation has it.
-fn refused(refusal: Refusal) -> Refused {
-    Refused { number: refusal.number(), missing: refusal.missing() }
-}
-
-/// What a function without a value answers to C.
-fn packed(expected: Result<(), Refused>) -> u64 {
-    expected.err().map_or(0, |refused| (refused.missing * 256 + refused.number).into())
-}
-
-/// The library's bench for a case.
-fn bench(case: &Case) -> Bench {
-    Bench { flags: case.bench.flags, streaming: case.bench.streaming, za_on: case.bench.za_on, vb: case.bench.vb }
 }
 
 /// The library's description for an instruction of the independent implementation.

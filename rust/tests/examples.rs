@@ -1,8 +1,8 @@
 //! The bench examples of the rules, through the safe functions.
 
 use birdaghol::{
-    Bench, Ended, Instruction, Operation, Refusal, Source, decode, describe, encode, execute, order_matters, print,
-    read, run,
+    Bench, Capture, Contents, Ended, Instruction, LONGEST_CAPTURE, Operation, Refusal, Source, capture_read,
+    capture_write, decode, describe, encode, execute, order_matters, print, read, run,
 };
 use std::array;
 
@@ -472,11 +472,85 @@ fn every_refusal_by_its_name() {
         (print(7, LONGEST, &mut [0; 46]).unwrap_err(), Refusal::Room),
         (read(7, "zero { }").unwrap_err(), Refusal::NotText),
         (stopped(BENCH, 512, 32, 256, 1), Refusal::NotCleared),
+        (Capture::read(&[2]).unwrap_err(), Refusal::Version),
+        (Capture::read(&[]).unwrap_err(), Refusal::Format),
     ];
     for (number, (refusal, name)) in (1..).zip(refusals) {
         assert_eq!((refusal, refusal.number()), (name, number));
         assert_eq!(refusal.missing(), if number == 8 { 1 } else { 0 }, "{refusal}");
     }
+}
+
+/// A capture of two words, byte by byte.
+#[test]
+fn capture_files() {
+    let bench = Bench { flags: 7, ..BENCH };
+    let (words, z, p, za) = ([ZERO, 0xA0A0_0000], [0x11; 512], [0x22; 32], [0x33; 256]);
+    let head = [1, 0, 0, 0, 4, 7, 3, 0x00, 0x10, 0, 0, 0, 8, 0xC0, 0x08, 0x00, 0xFF, 0xA0, 0xA0, 0x00, 0x00];
+    let file = [&head[..], &[0, 0, 2, 0], &z, &[0, 0, 0, 32], &p, &[0, 0, 1, 0], &za].concat();
+    assert_eq!(file.len(), 833);
+
+    let mut room = [0xA5; 840];
+    assert_eq!(capture_write(bench, &words, &z, &p, &za, &mut room[..832]), Err(Refusal::Room));
+    assert_eq!(room, [0xA5; 840]);
+    assert_eq!(capture_write(bench, &words, &z, &p, &za, &mut room), Ok(833));
+    assert_eq!((&room[..833], &room[833..]), (&file[..], &[0xA5; 7][..]));
+
+    let (mut words_read, mut z_read, mut p_read, mut za_read) = ([9; 4], [9; 513], [9; 32], [9; 256]);
+    let mut try_read = |count: usize| {
+        let answer = capture_read(&file, &mut words_read[..count], &mut z_read, &mut p_read, &mut za_read);
+        (answer, words_read, [z_read[0], z_read[512], p_read[0], za_read[255]])
+    };
+    assert_eq!(try_read(1), (Err(Refusal::Room), [9; 4], [9; 4]));
+    assert_eq!(try_read(4), (Ok(Contents { bench, words: 2 }), [ZERO, 0xA0A0_0000, 9, 9], [0x11, 9, 0x22, 0x33]));
+}
+
+/// A capture that is run has the sums in its ZA: of each four products one counts, 17 times 17, as p0 has every fourth bit.
+#[test]
+fn captures_that_are_run() {
+    let (z, p, za) = (vec![0x11; 512], vec![0x22; 32], vec![0x33; 256]);
+    let mut capture = Capture { bench: BENCH, words: vec![ZERO, 0xA0A0_0000], z, p, za };
+    let before = capture.write().expect("a legal capture");
+    assert_eq!(Capture::read(&before).as_ref(), Ok(&capture));
+
+    assert_eq!(capture.run(), Ended { count: 2, refusal: None });
+    assert_eq!(capture.za[..20], [[0x21, 0x01, 0, 0].repeat(4), vec![0; 4]].concat());
+    let after = capture.write().expect("a legal capture");
+    assert_eq!((&before[..577], before.len()), (&after[..577], after.len()));
+    assert_eq!(after[577..], capture.za);
+
+    capture.words = vec![ZERO; 65_537];
+    assert_eq!(capture.write(), Err(Refusal::ListLength));
+    assert_eq!(capture.run(), Ended { count: 0, refusal: Some(Refusal::ListLength) });
+}
+
+/// What is no capture, or one of another version.
+#[test]
+fn files_that_are_no_captures() {
+    let [z, p, za] = [512, 32, 256].map(|length| vec![0; length]);
+    let file = Capture { bench: BENCH, words: vec![ZERO], z, p, za }.write().expect("a legal capture");
+    let with = |at: usize, byte: u8| [&file[..at], &[byte], &file[at + 1..]].concat();
+    for (file, refusal) in [
+        (vec![], Refusal::Format),
+        (vec![1], Refusal::Format),
+        (vec![2], Refusal::Version),
+        (with(0, 0), Refusal::Version),
+        (with(4, 3), Refusal::Format),
+        (with(5, 16), Refusal::Format),
+        (with(6, 4), Refusal::Format),
+        (with(8, 15), Refusal::Format),
+        (with(8, 32), Refusal::Format),
+        (with(12, 3), Refusal::Format),
+        (with(12, 8), Refusal::Format),
+        (file[..file.len() - 1].to_vec(), Refusal::Format),
+        ([&file[..], &[0]].concat(), Refusal::Format),
+        ([&file[..], &file].concat(), Refusal::Format),
+    ] {
+        assert_eq!(Capture::read(&file), Err(refusal), "{} bytes, {:02x?}", file.len(), &file[..file.len().min(13)]);
+    }
+    let [z, p, za] = [32 * 256, 2 * 256, 256 * 256].map(|length| vec![0; length]);
+    let longest = Capture { bench: Bench { vb: 256, ..BENCH }, words: vec![ZERO; 65_536], z, p, za };
+    assert_eq!(longest.write().map(|file| file.len()), Ok(LONGEST_CAPTURE));
 }
 
 #[test]

@@ -8,10 +8,7 @@ mod sample;
 
 use sample::{Random, seeds};
 use std::io::{Read, Write};
-use std::os::fd::OwnedFd;
-use std::os::unix::net::UnixStream;
-use std::path::PathBuf;
-use std::process::{Child, ChildStdin, ChildStdout, Command, Stdio};
+use std::process::{Child, ChildStdin, ChildStdout};
 use std::thread;
 use std::time::Duration;
 
@@ -61,10 +58,7 @@ fn byte_by_byte() {
 #[test]
 fn failed_read() {
     let bytes = [0x10, 0x00, 0xA0, 0xA0, 0x10, 0x00, 0x00, 0x81, 0x05];
-    let (mut ours, theirs) = UnixStream::pair().expect("a pair of sockets");
-    theirs.set_nonblocking(true).expect("a socket that does not wait");
-    ours.write_all(&bytes).expect("room for nine bytes");
-    let ended = Command::new(program()).stdin(OwnedFd::from(theirs)).output().expect("the program runs");
+    let ended = sample::interrupt("lister", &bytes);
     assert_eq!(String::from_utf8_lossy(&ended.stdout), listing(&bytes[..8]));
     let told = String::from_utf8_lossy(&ended.stderr);
     assert_eq!(told, "the input can't be read to its end, and is not listed whole\n");
@@ -115,16 +109,9 @@ fn words(random: &mut Random, most: u64) -> Vec<u8> {
     [words, random.bytes(odd)].concat()
 }
 
-/// Where the program stands.
-fn program() -> PathBuf {
-    PathBuf::from(env!("CARGO_MANIFEST_DIR")).join("../target/bin/lister")
-}
-
 /// The program, and the ends of its pipes.
 fn start() -> (Child, ChildStdin, ChildStdout) {
-    let mut command = Command::new(program());
-    let child = command.stdin(Stdio::piped()).stdout(Stdio::piped()).stderr(Stdio::piped()).spawn();
-    let mut child = child.unwrap_or_else(|e| panic!("{}: {e}: run `rt check lister` first", program().display()));
+    let mut child = sample::start("lister");
     let (input, output) = (child.stdin.take().expect("a pipe"), child.stdout.take().expect("a pipe"));
     (child, input, output)
 }

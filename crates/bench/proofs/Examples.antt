@@ -9,8 +9,8 @@ use Rattle.storage.specs.Modulo.{modZ, plus}
 use Rattle.storage.specs.Change.{tabulate, change}
 use Rattle.storage.specs.Tile.{start, element, addAt, addTo, clearAt, clear}
 use Rattle.outer.specs.Products.{product, dot}
-use Rattle.replay.specs.Execution.{refusalOf, after}
-use Rattle.replay.specs.Lists.{played}
+use Rattle.machine.specs.Execution.{refusalOf, after}
+use Rattle.machine.specs.Lists.{played}
 use Rattle.bench.specs.Examples.{examples, twoWayExamples, answered}
 
 pub examples-hold : answered examples ≡ examples

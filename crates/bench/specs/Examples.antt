@@ -9,10 +9,10 @@ use Rattle.isa.specs.Answers.{describe, decodeNumber}
 use Rattle.text.specs.Ascii.{ascii}
 use Rattle.text.specs.Printing.{printLength, roomAfter}
 use Rattle.storage.specs.Tile.{start, element}
-use Rattle.replay.specs.Machine.{on}
-use Rattle.replay.specs.Instructions.{TileName, tileNamed}
-use Rattle.replay.specs.Lists.{played}
-use Rattle.replay.specs.declared.Bench.{Bench}
+use Rattle.machine.specs.Machine.{on}
+use Rattle.machine.specs.Instructions.{TileName, tileNamed}
+use Rattle.machine.specs.Lists.{played}
+use Rattle.machine.specs.declared.Bench.{Bench}
 
 -- ---- what the examples ask
 pub data Question : Type 0 where

@@ -3,13 +3,13 @@
 ghost use mathlib.Core.Path.{_≡_};
 ghost use Prim.Native.Nat.{_+_, _≤_};
 ghost use lib.ListN.{length};
-ghost use Rattle.replay.specs.Lists.{mostWords};
+ghost use Rattle.machine.specs.Lists.{mostWords};
 use isa::Decoded;
 use isa::Instruction;
 use isa::Refusal;
 use libc::STDOUT_FILENO;
-use replay::Bench;
-use replay::Outcome;
+use machine::Bench;
+use machine::Outcome;
 use text::Printed;
 
 // Document 01's flags where it gives none.
@@ -53,7 +53,7 @@ const UMOPS_TWO_WAY: u32 = 0xA180_0018;
 const SMOP4S_TWO_WAY: u32 = 0x8000_8018;
 
 // One word more than a run takes.
-const LIST_ROOM: usize = replay::MOST_WORDS + 1;
+const LIST_ROOM: usize = machine::MOST_WORDS + 1;
 
 fn main() {
     texts();
@@ -343,6 +343,8 @@ fn meanings() {
     meaning(Refusal::OutOfRange);
     meaning(Refusal::Room);
     meaning(Refusal::NotText);
+    meaning(Refusal::Version);
+    meaning(Refusal::Format);
 }
 
 fn meaning(r: Refusal) {
@@ -401,7 +403,7 @@ fn example(name: &[u8], bench: Bench, z: &[u8], p: &[u8], start: u8, word: u32) 
 
 // Executes a word on ZA: what it answers, which bytes differ then from the start, and element (0, 0) of ZA0.S.
 fn example_on(name: &[u8], bench: Bench, z: &[u8], p: &[u8], za: &mut [u8], start: u8, word: u32) {
-    let outcome = replay::execute(bench, z, p, za, word);
+    let outcome = machine::execute(bench, z, p, za, word);
     io::write_all(STDOUT_FILENO, name);
     answer(b": ", outcome);
     let n = changed(za, start);
@@ -426,8 +428,8 @@ fn in_turn(name: &[u8], z: &[u8], p: &[u8], one: u32, two: u32) {
 }
 
 fn in_turn_on(name: &[u8], z: &[u8], p: &[u8], za: &mut [u8], one: u32, two: u32) {
-    let first = replay::execute(on(), z, p, za, one);
-    let second = replay::execute(on(), z, p, za, two);
+    let first = machine::execute(on(), z, p, za, one);
+    let second = machine::execute(on(), z, p, za, two);
     io::write_all(STDOUT_FILENO, name);
     answer(b": ", first);
     answer(b", ", second);
@@ -439,7 +441,7 @@ fn in_turn_on(name: &[u8], z: &[u8], p: &[u8], za: &mut [u8], one: u32, two: u32
 // Runs a list from a ZA of zeros; its count, its answer and element (0, 0) of ZA0.S.
 fn list_example(name: &[u8], z: &[u8], p: &[u8], words: &[u32]) {
     let mut za = [0u8; 256];
-    let ended = replay::run(on(), z, p, &mut za, words);
+    let ended = machine::run(on(), z, p, &mut za, words);
     let outcome = ended.outcome;
     io::write_all(STDOUT_FILENO, name);
     decimal(b": count ", ended.count as u64);

@@ -7,8 +7,8 @@ use Rattle.text.specs.Spelling.{spelling}
 use Rattle.text.specs.Printing.{textOf, printOf}
 use Rattle.reader.specs.Guess.{guessOf, scanned, tilesFrom}
 use Rattle.reader.proofs.Readings.{computed, read-computed}
-use Rattle.replay.specs.Execution.{refusalOf, after}
-use Rattle.replay.specs.Lists.{played, before, stop, ran, runOf}
+use Rattle.machine.specs.Execution.{refusalOf, after}
+use Rattle.machine.specs.Lists.{played, before, stop, ran, runOf}
 use Rattle.birdaghol.specs.Calls.{packedReading, readCall}
 use Rattle.birdaghol.specs.Examples.{Example, examples, Read, reads, descriptions, described, expected}
 

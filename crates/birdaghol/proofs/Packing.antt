@@ -3,7 +3,7 @@ use mathlib.Core.Path.{_≡_, _∙_, refl, sym, ap, subst}
 use mathlib.Core.Bool.{Bool, true, false}
 use mathlib.Core.List.{List}
 use mathlib.Core.Option.{Option, none, some}
-use Prim.Native.Nat.{ℕ, _+_, _*_, _≤_, _<_}
+use Prim.Native.Nat.{ℕ, _+_, _*_, _^_, _≤_, _<_}
 use native.Mathlib.Omega.{arith}
 use lib.ListN.{length}
 use lib.Dec.{eqb}
@@ -16,14 +16,21 @@ use Rattle.isa.proofs.Theorems.{decodes}
 use Rattle.text.specs.Printing.{printOf, printedNumber, printedLength}
 use Rattle.text.specs.declared.Printed.the-variants.{Length}
 use Rattle.text.proofs.Theorems.{prints}
-use Rattle.replay.specs.Execution.{refusalOf, outcome, outcomeRefusal}
-use Rattle.replay.specs.Lists.{mostWords, runOf}
-use Rattle.replay.specs.Machine.{Machine}
-use Rattle.replay.specs.declared.Ended.{Ended}
-use Rattle.replay.specs.declared.Outcome.{Outcome}
-use Rattle.replay.proofs.Tests.{outcome-back}
-use Rattle.replay.proofs.Theorems.{runs}
+use Rattle.machine.specs.Execution.{refusalOf, outcome, outcomeRefusal}
+use Rattle.machine.specs.Lists.{mostWords, runOf}
+use Rattle.machine.specs.Machine.{Machine}
+use Rattle.machine.specs.declared.Ended.{Ended}
+use Rattle.machine.specs.declared.Outcome.{Outcome}
+use Rattle.machine.proofs.Tests.{outcome-back}
+use Rattle.machine.proofs.Theorems.{runs}
+use Rattle.machine.specs.declared.Bench.{Bench}
+use Rattle.capture.specs.Outcomes.{Buffers, Reads}
+use Rattle.capture.specs.declared.Reading.{Reading}
+use Rattle.capture.specs.declared.Reading.the-variants.{Contents, Refused as NotRead}
+use Rattle.capture.proofs.Captures.{modes-most}
+use Rattle.capture.proofs.Theorems.{contents-small}
 use Rattle.birdaghol.specs.Calls.{answer, executeCall, packedEnded, runCall}
+use Rattle.birdaghol.specs.Captures.{contentsNumber, packedContents, CaptureReads}
 
 -- an answer with no refusal
 pub value-alone : (v : ℕ) → v * 65536 ≡ answer v none
@@ -65,3 +72,19 @@ pub ended-packed : (m : Machine) (ws : List ℕ) (e : Ended) {n : ℕ} → e ≡
 ended-packed m ws e {n} h k =
     let p : e .count * 65536 + n ≡ packedEnded e = rw k (omega arith) in
     p ∙ ap packedEnded h
+
+-- what reading a capture answers, packed
+module _ {file : List ℕ} {before after : Buffers} {a : Reading} where
+  pub read-small : {b : Bench} {n : ℕ} → Reads file before a after → a ≡ Contents b n → (b .flags ≤ 15) × (b .vb ≤ 256) × (n ≤ 65536)
+  read-small q e = contents-small (subst (λ (r : Reading). Reads file before r after) e q)
+
+  -- it takes 33 bits, as the number of words reaches 65,536
+  pub contents-fit : {b : Bench} {n v : ℕ} → Reads file before a after → a ≡ Contents b n → v ≡ contentsNumber b n → v < 2 ^ 33
+  contents-fit {b} {n} q e h = let (f, v, w) = read-small q e in omega (arith, f, v, w, modes-most (b .sm) (b .za))
+
+  pub contents-packed : {b : Bench} {n v : ℕ} → Reads file before a after → a ≡ Contents b n → v ≡ contentsNumber b n → CaptureReads file before (v * 65536) after
+  contents-packed {b} {n} {v} q e h =
+      record { reading = a; reads = q; is = ap (λ (v : ℕ). v * 65536) h ∙ value-alone (contentsNumber b n) ∙ sym (ap packedContents e) }
+
+  pub refusal-packed : {r : Refusal} {n : ℕ} → Reads file before a after → a ≡ NotRead r → n ≡ answer 0 (some r) → CaptureReads file before n after
+  refusal-packed q e h = record { reading = a; reads = q; is = h ∙ sym (ap packedContents e) }

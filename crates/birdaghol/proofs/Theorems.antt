@@ -4,13 +4,13 @@ use mathlib.Core.Bool.{Bool, true, false, false≢true, cond, _&&_, _||_}
 use mathlib.Core.Logic.{_⊎_, inl, inr}
 use mathlib.Core.List.{List}
 use mathlib.Core.Option.{Option, none, some}
-use Prim.Native.Nat.{ℕ, _<_}
+use Prim.Native.Nat.{ℕ, _+_, _*_, _/_, _%_, _≤_, _<_}
 use native.Mathlib.Omega.{arith}
 use lib.Dec.{eqb}
 use lib.ListN.{length}
 use borrow.Author.Tests.{eqb-true, ltb-true, leb-true, eq-eqb, lt-ltb, le-leb}
 use Rattle.isa.specs.Table.{bit, isFormed, ranges, inRange}
-use Rattle.isa.specs.Refusals.{refusalNumber, refusalMissing}
+use Rattle.isa.specs.Refusals.{number, refusalNumber, refusalMissing, firstFailure}
 use Rattle.isa.specs.Answers.{describe, decodeRefusal}
 use Rattle.isa.specs.Claims.{OnlyWord}
 use Rattle.isa.specs.declared.Instruction.{Instruction}
@@ -19,6 +19,7 @@ use Rattle.isa.proofs.Tests.{every-all, all-every}
 use Rattle.isa.proofs.Rows.{both}
 use Rattle.isa.proofs.Lines.{source-register}
 use Rattle.isa.specs.declared.Refusal.{Refusal}
+use Rattle.isa.proofs.Sums.{plain-sum}
 use Rattle.isa.proofs.Answers.{encode-out-of-range}
 use Rattle.isa.proofs.Theorems.{decodes, encodes}
 use Rattle.text.specs.Printing.{printOf, printedRefusal, printedLength}
@@ -26,14 +27,21 @@ use Rattle.text.proofs.Theorems.{prints, put-outcome, accepts, same, gives-12, 
 use Rattle.text.specs.Spelling.{Text}
 use Rattle.reader.specs.Answers.{readOf, readingRefusal, readingWord}
 use Rattle.reader.proofs.Theorems.{reads}
-use Rattle.replay.specs.Execution.{refusalOf, outcomeRefusal}
-use Rattle.replay.specs.Lists.{runOf}
-use Rattle.replay.specs.Machine.{Machine}
-use Rattle.replay.proofs.Tests.{outcome-back}
-use Rattle.replay.proofs.Theorems.{executes, runs}
+use Rattle.machine.specs.Execution.{refusalOf, outcomeRefusal}
+use Rattle.machine.specs.Lists.{runOf}
+use Rattle.machine.specs.Machine.{Machine}
+use Rattle.machine.proofs.Tests.{outcome-back}
+use Rattle.machine.proofs.Theorems.{executes, runs}
+use Rattle.capture.specs.Format.{Capture, modes, bytesOfCapture}
+use Rattle.capture.specs.Outcomes.{writeTests, written, writeOf, writtenNumber, writtenLength, Buffers, Reads}
+use Rattle.capture.specs.declared.Reading.{Reading}
+use Rattle.capture.specs.declared.Reading.the-variants.{Contents, Refused as NotRead}
+use Rattle.capture.proofs.Captures.{modes-most}
+use Rattle.capture.proofs.Theorems.{contents-small, refused-plain}
+use Rattle.birdaghol.specs.Captures.{packedWritten, contentsNumber, packedContents, CaptureReads}
 use Rattle.birdaghol.specs.Calls.{answer, sized, operation, packedEncoded, encodeCall, askedPredicated, askedQuarter}
 use Rattle.birdaghol.specs.Fields.{numbersIn, describeRefusal}
-use Rattle.birdaghol.specs.Claims.{Unpacks, DecodeUnpacks, DescribeUnpacks, PrintUnpacks, ReadUnpacks, ExecuteUnpacks, RunUnpacks, ElementSize, Formed, PredicatedFits, QuarterFits}
+use Rattle.birdaghol.specs.Claims.{Unpacks, DecodeUnpacks, DescribeUnpacks, PrintUnpacks, ReadUnpacks, ExecuteUnpacks, RunUnpacks, CaptureWriteUnpacks, CaptureReadUnpacks, ElementSize, Formed, PredicatedFits, QuarterFits}
 use Rattle.birdaghol.specs.Claims.{EncodeAnswers, PredicatedAnswers, QuarterAnswers, ZeroAnswers, DescribeAnswers}
 use Rattle.birdaghol.proofs.Packing.{number-fits, sum-below, sum-fits}
 use Rattle.birdaghol.proofs.Fields.{describe-handed, Described, numbers-described, fields-numbers, fields-rest, fields-encoded}
@@ -66,6 +74,31 @@ execute-unpacks m w = let o = refusalOf m w in rw (outcome-back o) (unpacks 0 o 
 
 pub run-unpacks : (m : Machine) (ws : List ℕ) → RunUnpacks m ws
 run-unpacks m ws = unpacks (runOf m ws .count) (outcomeRefusal (runOf m ws .outcome)) (sum-fits (runs m ws .hands-back))
+
+-- ---- capture files
+pub capture-write-unpacks : (c : Capture) (room : ℕ) → CaptureWriteUnpacks c room
+unfolding writeOf
+capture-write-unpacks c room = go (firstFailure (writeTests c room)) (plain-sum (writeTests c room) refl)
+  where
+    go : (o : Option Refusal) → refusalMissing o ≡ 0 → Unpacks (packedWritten (written o (length (bytesOfCapture c)))) (writtenLength (written o (length (bytesOfCapture c)))) 0 (writtenNumber (written o (length (bytesOfCapture c))))
+    go none e = unpacks (length (bytesOfCapture c)) none (omega arith)
+    go (some r) e = subst (λ m. Unpacks (answer 0 (some r)) 0 m (number r)) e (unpacks 0 (some r) (rw e (omega arith)))
+
+contents-unpack : (f m v words : ℕ) → f ≤ 15 → m ≤ 3 → v ≤ 256
+    → let n = words * 65536 + v * 64 + m * 16 + f in (n % 16 ≡ f) × (n / 16 % 4 ≡ m) × (n / 64 % 1024 ≡ v) × (n / 65536 ≡ words)
+contents-unpack f m v words a b c = (omega arith, omega arith, omega arith, omega arith)
+
+pub capture-read-unpacks : (file : List ℕ) (before after : Buffers) (n : ℕ) (h : CaptureReads file before n after) → CaptureReadUnpacks n (h .reading)
+capture-read-unpacks file before after n h = go (h .reading) (h .reads) (h .is)
+  where
+    go : (r : Reading) → Reads file before r after → n ≡ packedContents r → CaptureReadUnpacks n r
+    go (Contents b words) q e =
+        let (f, v, w) = contents-small q in
+        let (x, y, z, u) = contents-unpack (b .flags) (modes (b .sm) (b .za)) (b .vb) words f (modes-most (b .sm) (b .za)) v in
+        (subst (λ n. Unpacks n (contentsNumber b words) 0 0) (sym e) (unpacks (contentsNumber b words) none (omega arith)), record { flags-is = x; modes-is = y; vb-is = z; words-is = u })
+    go (NotRead r) q e =
+        let m = refused-plain q in
+        subst (λ n. Unpacks n 0 0 (number r)) (sym e) (subst (λ m. Unpacks (answer 0 (some r)) 0 m (number r)) m (unpacks 0 (some r) (rw m (omega arith))))
 
 -- ---- encode
 abbrev size? : ℕ → ℕ → Bool

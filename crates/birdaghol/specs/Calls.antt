@@ -18,11 +18,11 @@ use Rattle.text.specs.declared.Printed.{Printed}
 use Rattle.text.specs.Spelling.{Text}
 use Rattle.reader.specs.Answers.{readOf, readingRefusal, readingWord}
 use Rattle.reader.specs.declared.Reading.{Reading}
-use Rattle.replay.specs.declared.Bench.{Bench}
-use Rattle.replay.specs.declared.Ended.{Ended}
-use Rattle.replay.specs.Machine.{Machine}
-use Rattle.replay.specs.Execution.{refusalOf, outcomeRefusal}
-use Rattle.replay.specs.Lists.{runOf}
+use Rattle.machine.specs.declared.Bench.{Bench}
+use Rattle.machine.specs.declared.Ended.{Ended}
+use Rattle.machine.specs.Machine.{Machine}
+use Rattle.machine.specs.Execution.{refusalOf, outcomeRefusal}
+use Rattle.machine.specs.Lists.{runOf}
 
 abbrev pub packed : ℕ → ℕ → ℕ → ℕ
 packed value missing refusal = value * 65536 + missing * 256 + refusal

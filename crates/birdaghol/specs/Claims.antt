@@ -5,6 +5,7 @@ use mathlib.Core.Logic.{_↔_, _⊎_}
 use mathlib.Core.List.{List}
 use Prim.Native.Nat.{ℕ, _/_, _%_, _^_, _≤_, _<_}
 use lib.ListN.{length, take, drop}
+use Rattle.isa.specs.Refusals.{number}
 use Rattle.isa.specs.Answers.{describe, decodeNumber, decodeMissing}
 use Rattle.isa.specs.Claims.{HandsBack, OnlyWord}
 use Rattle.isa.specs.declared.Instruction.{Instruction}
@@ -12,9 +13,15 @@ use Rattle.isa.specs.declared.Instruction.the-variants.{Zero}
 use Rattle.text.specs.Spelling.{Text}
 use Rattle.text.specs.Printing.{printNumber, printMissing, printLength}
 use Rattle.reader.specs.Answers.{readNumber, readMissing, readWord}
-use Rattle.replay.specs.Claims.{executeNumber, executeMissing, runNumber, runMissing, runCount}
-use Rattle.replay.specs.Machine.{Machine}
+use Rattle.machine.specs.Claims.{executeNumber, executeMissing, runNumber, runMissing, runCount}
+use Rattle.machine.specs.Machine.{Machine}
+use Rattle.machine.specs.declared.Bench.{Bench}
+use Rattle.capture.specs.Format.{Capture, modes}
+use Rattle.capture.specs.Outcomes.{writeOf, writtenNumber, writtenLength}
+use Rattle.capture.specs.declared.Reading.{Reading}
+use Rattle.capture.specs.declared.Reading.the-variants.{Contents, Refused}
 use Rattle.birdaghol.specs.Calls.{decodeCall, printCall, readCall, askedPredicated, askedQuarter, predicatedCall, quarterCall, zeroCall, executeCall, runCall}
+use Rattle.birdaghol.specs.Captures.{captureWriteCall, contentsNumber}
 use Rattle.birdaghol.specs.Fields.{numbersIn, fieldCount, describeNumber, describeMissing, describeCall, fieldsAfter, encodeNumbers}
 
 -- the refusal is the lowest byte, the missing flags are the next, and the value stands above
@@ -40,6 +47,21 @@ ExecuteUnpacks m w = Unpacks (executeCall m w) 0 (executeMissing m w) (executeNu
 
 abbrev pub RunUnpacks : Machine → List ℕ → Type 0
 RunUnpacks m ws = Unpacks (runCall m ws) (runCount m ws) (runMissing m ws) (runNumber m ws)
+
+-- ---- capture files
+abbrev pub CaptureWriteUnpacks : Capture → ℕ → Type 0
+CaptureWriteUnpacks c room = Unpacks (captureWriteCall c room) (writtenLength (writeOf c room)) 0 (writtenNumber (writeOf c room))
+
+-- the value of a read: flags have four bits, modes two and VB ten, and the number of words stands above
+pub record ContentsUnpack (value : ℕ) (b : Bench) (words : ℕ) : Type 0 where
+  pub flags-is : value % 16 ≡ b .flags
+  pub modes-is : value / 16 % 4 ≡ modes (b .sm) (b .za)
+  pub vb-is : value / 64 % 1024 ≡ b .vb
+  pub words-is : value / 65536 ≡ words
+
+abbrev pub CaptureReadUnpacks : ℕ → Reading → Type 0
+CaptureReadUnpacks n (Contents b words) = Unpacks n (contentsNumber b words) 0 0 × ContentsUnpack (contentsNumber b words) b words
+CaptureReadUnpacks n (Refused r) = Unpacks n 0 0 (number r)
 
 -- ---- encode: the arguments that are in range; there are as many tiles of a size as an element has bytes
 abbrev pub ElementSize : ℕ → Type 0

@@ -6,7 +6,7 @@ use Prim.Native.Nat.{ℕ, _+_, _*_}
 use lib.ListN.{replicate}
 use Rattle.text.specs.Ascii.{ascii}
 use Rattle.text.specs.Spelling.{Text}
-use Rattle.replay.specs.Machine.{on}
+use Rattle.machine.specs.Machine.{on}
 use Rattle.birdaghol.specs.Calls.{decodeCall, printCall, predicatedCall, quarterCall, zeroCall, benchOf, executeCall, runCall}
 use Rattle.birdaghol.specs.Fields.{describeCall, fieldsAfter}
 

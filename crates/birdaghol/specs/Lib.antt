@@ -1,4 +1,5 @@
 pub mod Calls
+pub mod Captures
 pub mod Fields
 pub mod Claims
 pub mod Examples

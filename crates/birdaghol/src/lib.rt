@@ -7,12 +7,16 @@ ghost use Prim.Native.Nat.{_≤_};
 ghost use lib.Dec.{ltb};
 ghost use lib.ListN.{length, drop};
 ghost use Rattle.text.specs.Printing.{roomAfter};
-ghost use Rattle.replay.specs.Machine.{on};
-ghost use Rattle.replay.specs.Execution.{after, outcomeRefusal};
-ghost use Rattle.replay.specs.Lists.{runLeft};
+ghost use Rattle.machine.specs.Machine.{on};
+ghost use Rattle.machine.specs.Execution.{after, outcomeRefusal};
+ghost use Rattle.machine.specs.Lists.{runLeft};
 ghost use Rattle.pairs.specs.Order.{orderMatters};
+ghost use Rattle.capture.specs.Format.{captureOf};
+ghost use Rattle.capture.specs.Outcomes.{roomWritten, buffers};
 ghost use Rattle.birdaghol.specs.Calls.{answer, decodeCall, printCall, readCall, sized, operation, predicatedCall, quarterCall, zeroCall, encodeCall, benchOf, executeCall, runCall};
+ghost use Rattle.birdaghol.specs.Captures.{captureWriteCall, contentsNumber, CaptureReads};
 ghost use Rattle.birdaghol.specs.Fields.{operationNumbers, numbersOf, fieldCount, describeCall, fieldsAfter};
+use capture::Written;
 use isa::Checked;
 use isa::Decoded;
 use isa::Encoded;
@@ -22,15 +26,23 @@ use isa::Predicate;
 use isa::Refusal;
 use isa::Tile;
 use isa::Vector;
+use machine::Bench;
+use machine::Outcome;
 use reader::Reading;
-use replay::Bench;
-use replay::Outcome;
 use text::Printed;
 
 // A refusal takes the lowest byte of an answer, the flags that are missing the next, and the value stands above them.
 const AT_MISSING: u64 = 256;
 
 const AT_VALUE: u64 = 65536;
+
+// Of a capture, flags take the lowest four bits of the value, modes the next two, VB the next ten, and the number of words
+// stands above them.
+const AT_MODES: u64 = 16;
+
+const AT_VB: u64 = 64;
+
+const AT_WORDS: u64 = 65536;
 
 // How many numbers a description is, and the first of them, its kind.
 const FIELDS: usize = 11;
@@ -177,7 +189,7 @@ pub extern "C" fn birdaghol_execute(
     ensures { λ r. ⌜ r ≡ executeCall (on (benchOf flags streaming «za_on» vb) (now (z .entry)) (now (p .entry)) (now (za .entry))) word ⌝ }
     ensures { λ _. ⌜ now (za .exit) ≡ after (on (benchOf flags streaming «za_on» vb) (now (z .entry)) (now (p .entry)) (now (za .entry))) word .za ⌝ }
 {
-    refusal_of(replay::execute(bench_of(flags, streaming, za_on, vb), z, p, za, word))
+    refusal_of(machine::execute(bench_of(flags, streaming, za_on, vb), z, p, za, word))
 }
 
 // Executes words in turn, up to the first that is refused. The value is the number of words executed: 65,536 at most, and 0
@@ -196,9 +208,48 @@ pub extern "C" fn birdaghol_run(
     ensures { λ r. ⌜ r ≡ runCall (on (benchOf flags streaming «za_on» vb) (now (z .entry)) (now (p .entry)) (now (za .entry))) (now (words .entry)) ⌝ }
     ensures { λ _. ⌜ now (za .exit) ≡ runLeft (on (benchOf flags streaming «za_on» vb) (now (z .entry)) (now (p .entry)) (now (za .entry))) (now (words .entry)) .za ⌝ }
 {
-    let ended = replay::run(bench_of(flags, streaming, za_on, vb), z, p, za, words);
+    let ended = machine::run(bench_of(flags, streaming, za_on, vb), z, p, za, words);
     let outcome = ended.outcome;
     ended.count as u64 * AT_VALUE + refusal_of(outcome)
+}
+
+// Writes a run as a capture to the start of file. The value is the file's length.
+#[no_mangle]
+pub extern "C" fn birdaghol_capture_write(
+    flags: u32,
+    streaming: bool,
+    za_on: bool,
+    vb: usize,
+    words: &[u32],
+    z: &[u8],
+    p: &[u8],
+    za: &[u8],
+    file: &mut [u8],
+) -> u64
+    ensures { λ r. ⌜ r ≡ captureWriteCall (captureOf (benchOf flags streaming «za_on» vb) (now (words .entry)) (now (z .entry)) (now (p .entry)) (now (za .entry))) (length (now (file .entry))) ⌝ }
+    ensures { λ _. ⌜ now (file .exit) ≡ roomWritten (captureOf (benchOf flags streaming «za_on» vb) (now (words .entry)) (now (z .entry)) (now (p .entry)) (now (za .entry))) (now (file .entry)) ⌝ }
+{
+    match capture::write(bench_of(flags, streaming, za_on, vb), words, z, p, za, file) {
+        Written::Length(n) => n as u64 * AT_VALUE,
+        Written::Refused(r) => refused(r),
+    }
+}
+
+// Puts the contents of a capture at the starts of words, z, p and za. The value is words * 65536 + vb * 64 + modes * 16 + flags.
+#[no_mangle]
+pub extern "C" fn birdaghol_capture_read(
+    file: &[u8],
+    words: &mut [u32],
+    z: &mut [u8],
+    p: &mut [u8],
+    za: &mut [u8],
+) -> u64
+    ensures { λ r. ⌜ CaptureReads (now (file .entry)) (buffers (now (words .entry)) (now (z .entry)) (now (p .entry)) (now (za .entry))) r (buffers (now (words .exit)) (now (z .exit)) (now (p .exit)) (now (za .exit))) ⌝ }
+{
+    match capture::read(file, words, z, p, za) {
+        capture::Reading::Contents { bench, words: n } => contents_number(bench, n) * AT_VALUE,
+        capture::Reading::Refused(r) => refused(r),
+    }
 }
 
 // Whether the order of two words matters: both are outer products that decode accepts, and their tiles share rows and differ in
@@ -239,6 +290,15 @@ fn bench_of(flags: u32, streaming: bool, za_on: bool, vb: usize) -> Bench
         za: za_on,
         vb,
     }
+}
+
+// A bench and a number of words as one number.
+fn contents_number(bench: Bench, words: usize) -> u64
+    requires { ⌜ (bench .flags ≤ 15) × (bench .vb ≤ 256) × (words ≤ 65536) ⌝ }
+    ensures { λ r. ⌜ r ≡ contentsNumber bench words ⌝ }
+{
+    let modes = capture::modes_of(bench.sm, bench.za) as u64;
+    words as u64 * AT_WORDS + bench.vb as u64 * AT_VB + modes * AT_MODES + bench.flags as u64
 }
 
 // A refusal as it stands in an answer: its number, and above it what it hands back.

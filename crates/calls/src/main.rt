@@ -1,5 +1,7 @@
 // Calls each exported function and writes its answers, the value, the flags that are missing and the refusal, and what it
 // left in a buffer: which argument is which, and that the boundary's numbers are as documents 01 and 02 have them.
+use birdaghol::birdaghol_capture_read;
+use birdaghol::birdaghol_capture_write;
 use birdaghol::birdaghol_decode;
 use birdaghol::birdaghol_describe;
 use birdaghol::birdaghol_encode_predicated;
@@ -38,6 +40,8 @@ fn main() {
     executes(&z, &p);
     executes_two_way(&z, &p);
     runs(&z, &p);
+    captures_written(&z, &p);
+    captures_read(&z, &p);
     orders();
 }
 
@@ -274,6 +278,102 @@ fn runs(z: &[u8], p: &[u8]) {
         birdaghol_run(7, false, true, 16, z, p, &mut za, &words),
     );
     bytes(&za);
+}
+
+// Two words, which follow the bench in the file. The last byte of a room that is a byte longer stays; a short room stays as it is.
+fn captures_written(z: &[u8], p: &[u8]) {
+    let mut file = [99u8; 834];
+    written(b"ZA off", 7, true, false, z, p, &mut file);
+    written(b"streaming off", 15, false, true, z, p, &mut file);
+    written(b"Z and P exchanged", 7, true, true, p, z, &mut file);
+    let mut short = [99u8; 832];
+    written(b"flags", 16, true, true, z, p, &mut short);
+    written(b"no room", 7, true, true, z, p, &mut short);
+}
+
+fn written(
+    name: &[u8],
+    flags: u32,
+    streaming: bool,
+    za_on: bool,
+    z: &[u8],
+    p: &[u8],
+    file: &mut [u8],
+) {
+    let words = [ZERO_ALL, SUMOPA];
+    let za = [2u8; 256];
+    io::write_all(STDOUT_FILENO, b"capture write, ");
+    answer(
+        name,
+        birdaghol_capture_write(flags, streaming, za_on, 16, &words, z, p, &za, file),
+    );
+    ends(file);
+}
+
+// The first bytes of a file, up to its words, and its last one.
+fn ends(file: &[u8]) {
+    io::write_all(STDOUT_FILENO, b"file:");
+    listed(checks::first(file, 21));
+    if 0 < file.len() {
+        byte(file[file.len() - 1]);
+    }
+    io::write_all(STDOUT_FILENO, b"\n");
+}
+
+// That file read back: whole, with a byte left over or missing, and nothing at all; as another version, and to a P that is too short.
+fn captures_read(z: &[u8], p: &[u8]) {
+    let mut long = [4u8; 33];
+    read_back(b"whole", z, p, 1, 833, &mut long);
+    let mut predicates = [4u8; 33];
+    read_back(b"a byte left over", z, p, 1, 834, &mut predicates);
+    read_back(b"a byte missing", z, p, 1, 832, &mut predicates);
+    read_back(b"nothing", z, p, 1, 0, &mut predicates);
+    read_back(b"another version", z, p, 2, 834, &mut predicates);
+    let mut short = [4u8; 31];
+    read_back(b"no room for P", z, p, 1, 833, &mut short);
+}
+
+// Reads the first n bytes of a file, to buffers with place for a word, a byte of Z and a byte of ZA more.
+fn read_back(name: &[u8], z: &[u8], p: &[u8], version: u8, n: usize, predicates: &mut [u8]) {
+    let mut file = [99u8; 834];
+    let za = [2u8; 256];
+    birdaghol_capture_write(
+        15,
+        false,
+        true,
+        16,
+        &[ZERO_ALL, SUMOPA],
+        z,
+        p,
+        &za,
+        &mut file,
+    );
+    file[0] = version;
+    let mut words = [7u32; 3];
+    let mut vectors = [3u8; 513];
+    let mut tiles = [5u8; 257];
+    io::write_all(STDOUT_FILENO, b"capture read, ");
+    answer(
+        name,
+        birdaghol_capture_read(
+            checks::first(&file, n),
+            &mut words,
+            &mut vectors,
+            predicates,
+            &mut tiles,
+        ),
+    );
+    numbers(&words);
+    four(vectors[0], vectors[511], vectors[512], tiles[255]);
+    byte(tiles[256]);
+    listed(predicates);
+    io::write_all(STDOUT_FILENO, b"\n");
+}
+
+fn listed(bytes: &[u8]) {
+    for i in 0..bytes.len() {
+        byte(bytes[i]);
+    }
 }
 
 // Words on za3.s, za7.d, za3.d and za2.d: 32-bit tile t has the rows of 64-bit tiles t and t + 4.

@@ -79,7 +79,8 @@ pub fn differing(a: &[u8], b: &[u8]) -> u64
     n
 }
 
-fn has(bytes: &[u8], i: usize, byte: u8) -> bool
+// Whether a byte stands at place i.
+pub fn has(bytes: &[u8], i: usize, byte: u8) -> bool
     ensures { λ r. ⌜ r ≡ hasAt (now (bytes .entry)) i byte ⌝ }
 {
     if bytes.len() <= i {

@@ -7,6 +7,7 @@ mod text;
 pub use counts::count;
 pub use counts::counted;
 pub use counts::differing;
+pub use counts::has;
 pub use counts::one_if;
 pub use counts::part;
 pub use counts::plus;

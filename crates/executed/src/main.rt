@@ -9,7 +9,7 @@ use checks::Outcome;
 use checks::Tally;
 use libc::STDIN_FILENO;
 use libc::STDOUT_FILENO;
-use replay::Bench;
+use machine::Bench;
 
 const ALL_FEATURES: u32 = 15;
 
@@ -118,7 +118,7 @@ fn fields_outcome(vb: &[u8], seed: &[u8], fill: &[u8], words: &[u8], checksum: &
         1 => Fill::Edges,
         _ => return Outcome::Malformed,
     };
-    let mut room = [0u32; replay::MOST_WORDS];
+    let mut room = [0u32; machine::MOST_WORDS];
     words_outcome(vb as usize, seed, fill, words, &mut room, checksum)
 }
 
@@ -239,8 +239,8 @@ fn leaves(
 fn executes(bench: Bench, z: &[u8], p: &[u8], za: &mut [u8], words: &[u32]) -> bool {
     let mut i = 0;
     while i < words.len() {
-        let outcome = replay::execute(bench, z, p, za, words[i]);
-        if let replay::Outcome::Refused(_) = outcome {
+        let outcome = machine::execute(bench, z, p, za, words[i]);
+        if let machine::Outcome::Refused(_) = outcome {
             return false;
         }
         i += 1;

@@ -8,7 +8,7 @@ use Prim.Native.Nat.{_<_, _≤_}
 use native.Mathlib.Omega.{arith}
 use Rattle.isa.specs.Refusals.{number, Test, firstFailure, orElse}
 use Rattle.isa.specs.declared.Refusal.{Refusal}
-use Rattle.isa.specs.declared.Refusal.the-variants.{Flags, VectorLength, ZLength, PLength, ZaLength, ListLength, Unlisted, FeatureOff, StreamingOff, ZaOff, OutOfRange, Room, NotText, NotCleared}
+use Rattle.isa.specs.declared.Refusal.the-variants.{Flags, VectorLength, ZLength, PLength, ZaLength, ListLength, Unlisted, FeatureOff, StreamingOff, ZaOff, OutOfRange, Room, NotText, NotCleared, Version, Format}
 
 pub failure-++ : (ts us : List Test) → firstFailure (ts ++ us) ≡ orElse (firstFailure ts) (firstFailure us)
 failure-++ [] us = refl
@@ -25,8 +25,8 @@ failed-before ts us r p = failure-++ ts us ∙ ap (λ o. orElse o (firstFailure 
 pub passed-before : (ts us : List Test) → firstFailure ts ≡ none → firstFailure (ts ++ us) ≡ firstFailure us
 passed-before ts us p = failure-++ ts us ∙ ap (λ o. orElse o (firstFailure us)) p
 
--- refusals are numbered from 1 to 14: 0 is none's, and each fits beside a value
-pub number-between : (r : Refusal) → (1 ≤ number r) × (number r ≤ 14)
+-- refusals are numbered from 1 to 16: 0 is none's, and each fits beside a value
+pub number-between : (r : Refusal) → (1 ≤ number r) × (number r ≤ 16)
 number-between Flags = (omega arith, omega arith)
 number-between VectorLength = (omega arith, omega arith)
 number-between ZLength = (omega arith, omega arith)
@@ -41,6 +41,8 @@ number-between OutOfRange = (omega arith, omega arith)
 number-between Room = (omega arith, omega arith)
 number-between NotText = (omega arith, omega arith)
 number-between NotCleared = (omega arith, omega arith)
+number-between Version = (omega arith, omega arith)
+number-between Format = (omega arith, omega arith)
 
 pub number-positive : (r : Refusal) → 0 < number r
 number-positive r = number-between r .0

@@ -64,3 +64,15 @@ module _ (flags w : ℕ) where
 
   pub room-fair : (n k : ℕ) → Fair (roomTests flags w n k)
   room-fair n k = let ts : List Test = record { fails = ltb n k; gives = Room } ∷ [] in fair-++ (decodeTests flags w) ts decode-fair (plain-fair ts refl)
+
+-- plain tests hand nothing back, whatever the word
+pub plain-sum : (ts : List Test) → every (map plain ts) ≡ true → refusalMissing (firstFailure ts) ≡ 0
+plain-sum [] h = refl
+plain-sum (t ∷ ts) h =
+    let (a, rest) = both (plain t) (every (map plain ts)) h in
+    let (n, s) = both (not (eqb (number (t .gives)) 8)) (eqb (missingIn (t .gives)) 0) a in
+    go (t .fails) (eqb-true (missingIn (t .gives)) 0 s) (plain-sum ts rest)
+  where
+    go : (b : Bool) → missingIn (t .gives) ≡ 0 → refusalMissing (firstFailure ts) ≡ 0 → refusalMissing (cond b (some (t .gives)) (firstFailure ts)) ≡ 0
+    go true e f = e
+    go false e f = f

@@ -1,11 +1,11 @@
 -- Refusals: their numbers, what 8 hands back, and the order of tests (document 01, "Refusal numbers", and document 02, C-11,
--- C-15 and C-17).
+-- C-15, C-17 and C-20).
 use mathlib.Core.Bool.{Bool, cond}
 use mathlib.Core.List.{List, [], _∷_}
 use mathlib.Core.Option.{Option, none, some}
 use Prim.Native.Nat.{ℕ}
 use Rattle.isa.specs.declared.Refusal.{Refusal}
-use Rattle.isa.specs.declared.Refusal.the-variants.{Flags, VectorLength, ZLength, PLength, ZaLength, ListLength, Unlisted, FeatureOff, StreamingOff, ZaOff, OutOfRange, Room, NotText, NotCleared}
+use Rattle.isa.specs.declared.Refusal.the-variants.{Flags, VectorLength, ZLength, PLength, ZaLength, ListLength, Unlisted, FeatureOff, StreamingOff, ZaOff, OutOfRange, Room, NotText, NotCleared, Version, Format}
 
 abbrev pub number : Refusal → ℕ
 number Flags = 1
@@ -22,6 +22,8 @@ number OutOfRange = 11
 number Room = 12
 number NotText = 13
 number NotCleared = 14
+number Version = 15
+number Format = 16
 
 -- the sum of flags that a refusal hands back; 0 beside any number but 8
 abbrev pub missingIn : Refusal → ℕ
@@ -39,6 +41,8 @@ missingIn OutOfRange = 0
 missingIn Room = 0
 missingIn NotText = 0
 missingIn NotCleared = 0
+missingIn Version = 0
+missingIn Format = 0
 
 -- both are 0 where there is none
 abbrev pub refusalNumber : Option Refusal → ℕ

@@ -96,6 +96,8 @@ pub enum Refusal {
     Room,
     NotText,
     NotCleared,
+    Version,
+    Format,
 }
 
 // check's answer: nothing is refused, or why something is.

@@ -1,4 +1,4 @@
-// The numbers of the refusals, and what 8 hands back (document 01, "Refusal numbers", and document 02, C-11, C-15 and C-17).
+// The numbers of the refusals, and what 8 hands back (document 01, "Refusal numbers", and document 02, C-11, C-15, C-17 and C-20).
 ghost use mathlib.Core.Path.{_≡_};
 ghost use Rattle.isa.specs.Refusals.{number as numberOf, missingIn};
 use crate::Refusal;
@@ -22,6 +22,8 @@ pub fn number(r: Refusal) -> u32
         Refusal::Room => 12,
         Refusal::NotText => 13,
         Refusal::NotCleared => 14,
+        Refusal::Version => 15,
+        Refusal::Format => 16,
     }
 }
 
@@ -44,5 +46,7 @@ pub fn missing_in(r: Refusal) -> u32
         Refusal::Room => 0,
         Refusal::NotText => 0,
         Refusal::NotCleared => 0,
+        Refusal::Version => 0,
+        Refusal::Format => 0,
     }
 }

@@ -10,15 +10,15 @@ use Rattle.isa.specs.declared.Instruction.the-variants.{Predicated, Quarter, Ze
 use Rattle.storage.proofs.Laws.{Good, addTo-good}
 use Rattle.storage.proofs.Clearing.{clear-good}
 use Rattle.storage.proofs.Sizes.{Length, za-good}
-use Rattle.replay.specs.declared.Bench.{Bench}
-use Rattle.replay.specs.Machine.{Machine}
-use Rattle.replay.specs.Execution.{refusalOf, effect, after}
-use Rattle.replay.specs.Lists.{played}
-use Rattle.replay.proofs.Acts.{sized}
-use Rattle.replay.proofs.Links.{element-width}
-use Rattle.replay.proofs.Benches.{Judged, refuses, sound, judged}
-use Rattle.replay.proofs.Execution.{after-by}
-use Rattle.replay.proofs.Keeping.{after-keeps, played-keeps}
+use Rattle.machine.specs.declared.Bench.{Bench}
+use Rattle.machine.specs.Machine.{Machine}
+use Rattle.machine.specs.Execution.{refusalOf, effect, after}
+use Rattle.machine.specs.Lists.{played}
+use Rattle.machine.proofs.Acts.{sized}
+use Rattle.machine.proofs.Links.{element-width}
+use Rattle.machine.proofs.Benches.{Judged, refuses, sound, judged}
+use Rattle.machine.proofs.Execution.{after-by}
+use Rattle.machine.proofs.Keeping.{after-keeps, played-keeps}
 use Rattle.pairs.specs.Claims.{Bytes}
 
 module _ (m : Machine) where

@@ -15,11 +15,11 @@ use Rattle.isa.specs.declared.Decoded.{Decoded}
 use Rattle.isa.specs.declared.Decoded.the-variants.{Accepted, Refused}
 use Rattle.isa.proofs.Answers.{decode-passed}
 use Rattle.storage.proofs.Bytes.{word-lt}
-use Rattle.replay.specs.Machine.{Machine}
-use Rattle.replay.specs.Instructions.{isOuter}
-use Rattle.replay.specs.Execution.{after}
-use Rattle.replay.specs.Lists.{played}
-use Rattle.replay.specs.Demand3.{Asked}
+use Rattle.machine.specs.Machine.{Machine}
+use Rattle.machine.specs.Instructions.{isOuter}
+use Rattle.machine.specs.Execution.{after}
+use Rattle.machine.specs.Lists.{played}
+use Rattle.machine.specs.Demand3.{Asked}
 use Rattle.pairs.specs.Order.{orderMatters}
 use Rattle.pairs.specs.Claims.{Bytes, NoneClash}
 use Rattle.pairs.proofs.Below.{below-some}

@@ -11,9 +11,9 @@ use Rattle.isa.specs.Answers.{decodeOf}
 use Rattle.isa.specs.declared.Decoded.{Decoded}
 use Rattle.isa.specs.declared.Decoded.the-variants.{Accepted, Refused}
 use Rattle.storage.specs.Bytes.{at, word}
-use Rattle.replay.specs.Machine.{Machine}
-use Rattle.replay.specs.Instructions.{isOuter}
-use Rattle.replay.specs.Lists.{played, mostWords}
+use Rattle.machine.specs.Machine.{Machine}
+use Rattle.machine.specs.Instructions.{isOuter}
+use Rattle.machine.specs.Lists.{played, mostWords}
 use Rattle.pairs.specs.Order.{someBelow, orderMatters}
 use Rattle.pairs.specs.Claims.{Bytes}
 use Rattle.order.specs.declared.Verdict.{Verdict}

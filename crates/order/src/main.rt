@@ -6,7 +6,7 @@ ghost use mathlib.Core.Option.{some};
 ghost use Prim.Native.Nat.{_+_, _*_, _≤_};
 ghost use lib.ListN.{length};
 ghost use Rattle.isa.specs.Table.{allFlags};
-ghost use Rattle.replay.specs.Instructions.{isOuter};
+ghost use Rattle.machine.specs.Instructions.{isOuter};
 ghost use Rattle.pairs.specs.Order.{someBelow, orderMatters};
 ghost use Rattle.order.specs.Pairs.{wordAt, pairedWith, anyPair, isFixed, anyFixed, countIn, verdictOf};
 use checks::Input;
@@ -46,7 +46,7 @@ fn judge(bytes: &[u8]) -> Verdict
     if bytes.len() % 4 != 0 {
         return Verdict::NotWords;
     }
-    if 4 * replay::MOST_WORDS < bytes.len() {
+    if 4 * machine::MOST_WORDS < bytes.len() {
         return Verdict::TooLong;
     }
     let fixed = name_fixed_words(bytes);
@@ -65,7 +65,7 @@ fn pronounce(verdict: Verdict, words: usize) {
         Verdict::NotWords => tell(b"the input ends in the middle of a word, and is not judged\n"),
         Verdict::TooLong => {
             tell(b"the list has more words than ");
-            io::print_decimal(STDERR_FILENO, replay::MOST_WORDS as u64);
+            io::print_decimal(STDERR_FILENO, machine::MOST_WORDS as u64);
             tell(b", and is not judged\n");
         }
         Verdict::OrderMatters => count_words(words),

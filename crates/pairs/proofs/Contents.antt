@@ -11,11 +11,11 @@ use Rattle.isa.specs.Table.{allFlags}
 use Rattle.isa.specs.Answers.{describe}
 use Rattle.storage.specs.Bytes.{at}
 use Rattle.storage.specs.Sizes.{legal, zSize, pSize, zaSize}
-use Rattle.replay.specs.declared.Bench.{Bench}
-use Rattle.replay.specs.Machine.{Machine}
-use Rattle.replay.specs.Instructions.{outerOf}
-use Rattle.replay.specs.Execution.{refusalOf}
-use Rattle.replay.specs.Claims.{BenchPasses}
+use Rattle.machine.specs.declared.Bench.{Bench}
+use Rattle.machine.specs.Machine.{Machine}
+use Rattle.machine.specs.Instructions.{outerOf}
+use Rattle.machine.specs.Execution.{refusalOf}
+use Rattle.machine.specs.Claims.{BenchPasses}
 use Rattle.pairs.specs.Order.{takesAway, startByte, telling}
 use Rattle.pairs.specs.Claims.{Bytes}
 use Rattle.pairs.proofs.Orders.{AllAre}

@@ -7,8 +7,8 @@ use Rattle.storage.specs.Modulo.{modZ, plus}
 use Rattle.storage.specs.Change.{tabulate, change}
 use Rattle.storage.specs.Tile.{start, element, addAt, addTo}
 use Rattle.outer.specs.Products.{product, dot}
-use Rattle.replay.specs.Execution.{refusalOf, after}
-use Rattle.replay.specs.Lists.{played}
+use Rattle.machine.specs.Execution.{refusalOf, after}
+use Rattle.machine.specs.Lists.{played}
 use Rattle.pairs.specs.Order.{orderMatters}
 use Rattle.pairs.specs.Examples.{examples, answered, ends, bothLeft}
 

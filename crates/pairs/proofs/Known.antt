@@ -16,7 +16,7 @@ use Rattle.outer.specs.Products.{interpret, registerAt, sourceElement, active, 
 use Rattle.outer.specs.Walks.{ByteOrHalf, byte, half}
 use Rattle.outer.proofs.Sizes.{byte-place}
 use Rattle.outer.proofs.Shapes.{shape, register-lt, spot, numbered}
-use Rattle.replay.proofs.Masks.{all-rows}
+use Rattle.machine.proofs.Masks.{all-rows}
 
 -- a number of E bytes that are all y
 abbrev pub filled : ℕ → ℕ → ℕ

@@ -15,16 +15,16 @@ use Rattle.storage.specs.Tile.{addTo}
 use Rattle.storage.proofs.Laws.{addTo-length}
 use Rattle.outer.specs.declared.OuterProduct.{OuterProduct}
 use Rattle.outer.specs.Products.{sums, Shaped, Ready}
-use Rattle.replay.specs.Machine.{Machine, withZa}
-use Rattle.replay.specs.Operands.{predicatedOuter, quarterOuter}
-use Rattle.replay.specs.Instructions.{isOuter, outerOf, TileName, tileNamed}
-use Rattle.replay.specs.Execution.{machineTests, refusalOf, none?, accepted}
-use Rattle.replay.specs.Claims.{BenchPasses}
-use Rattle.replay.proofs.Tests.{machine-passes}
-use Rattle.replay.proofs.Execution.{refused-by-bench}
-use Rattle.replay.proofs.Ready.{predicated-ready, quarter-ready}
-use Rattle.replay.proofs.Acts.{Width, add, step}
-use Rattle.replay.proofs.Links.{next, played-next, element-width, act, act-does}
+use Rattle.machine.specs.Machine.{Machine, withZa}
+use Rattle.machine.specs.Operands.{predicatedOuter, quarterOuter}
+use Rattle.machine.specs.Instructions.{isOuter, outerOf, TileName, tileNamed}
+use Rattle.machine.specs.Execution.{machineTests, refusalOf, none?, accepted}
+use Rattle.machine.specs.Claims.{BenchPasses}
+use Rattle.machine.proofs.Tests.{machine-passes}
+use Rattle.machine.proofs.Execution.{refused-by-bench}
+use Rattle.machine.proofs.Ready.{predicated-ready, quarter-ready}
+use Rattle.machine.proofs.Acts.{Width, add, step}
+use Rattle.machine.proofs.Links.{next, played-next, element-width, act, act-does}
 use Rattle.pairs.specs.Order.{inTurn}
 
 -- ---- an accepted word: nothing refuses it, and the bench passes 1 to 5

@@ -23,16 +23,16 @@ use Rattle.storage.specs.Bytes.{at}
 use Rattle.storage.specs.Sizes.{legal, zSize, pSize, zaSize}
 use Rattle.storage.proofs.Laws.{Good}
 use Rattle.storage.proofs.Sizes.{Length, legal-length, za-good}
-use Rattle.replay.specs.Machine.{Machine, withZa}
-use Rattle.replay.specs.Instructions.{isOuter, TileName, tileNamed, isTile}
-use Rattle.replay.specs.Execution.{refusalOf, none?, accepted, outcome, outcomeNumber}
-use Rattle.replay.specs.Claims.{BenchPasses}
-use Rattle.replay.specs.Demand3.{Apart}
-use Rattle.replay.proofs.Acts.{Width, narrow, wide, add-comm}
-use Rattle.replay.proofs.Masks.{both-or}
-use Rattle.replay.proofs.Links.{element-width, named-tile}
-use Rattle.replay.proofs.Demand3.{demand3}
-use Rattle.replay.proofs.Theorems.{needs-modes}
+use Rattle.machine.specs.Machine.{Machine, withZa}
+use Rattle.machine.specs.Instructions.{isOuter, TileName, tileNamed, isTile}
+use Rattle.machine.specs.Execution.{refusalOf, none?, accepted, outcome, outcomeNumber}
+use Rattle.machine.specs.Claims.{BenchPasses}
+use Rattle.machine.specs.Demand3.{Apart}
+use Rattle.machine.proofs.Acts.{Width, narrow, wide, add-comm}
+use Rattle.machine.proofs.Masks.{both-or}
+use Rattle.machine.proofs.Links.{element-width, named-tile}
+use Rattle.machine.proofs.Demand3.{demand3}
+use Rattle.machine.proofs.Theorems.{needs-modes}
 use Rattle.pairs.specs.Order.{inTurn, shareRows, clash, tileDecoded, orderMatters, startByte, telling, modesOn}
 use Rattle.pairs.specs.Claims.{Bytes, Outers, BothAccepted, SharedRow, SameWidth, TellsApart, WhenOrderMatters, Clashing, Decides, AnyOrder}
 use Rattle.pairs.proofs.Tiles.{shared-rows, rows-shared, narrow-of, shared-by, shared-back}

@@ -9,8 +9,8 @@ use Rattle.isa.specs.Row.{everyBelow}
 use Rattle.isa.proofs.Tests.{beq-eq, below}
 use Rattle.isa.proofs.Rows.{both}
 use Rattle.storage.proofs.Sizes.{Length}
-use Rattle.replay.specs.Instructions.{TileName}
-use Rattle.replay.proofs.Acts.{Width, narrow, wide}
+use Rattle.machine.specs.Instructions.{TileName}
+use Rattle.machine.proofs.Acts.{Width, narrow, wide}
 use Rattle.pairs.specs.Order.{hasRow, shareRows}
 use Rattle.pairs.specs.Claims.{SharedRow}
 use Rattle.pairs.proofs.Below.{below-some, some-below}

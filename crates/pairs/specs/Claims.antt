@@ -10,11 +10,11 @@ use lib.ListN.{length}
 use Rattle.isa.specs.Answers.{describe, decodeNumber}
 use Rattle.storage.specs.Bytes.{at}
 use Rattle.storage.specs.Sizes.{legal, zSize, pSize, zaSize}
-use Rattle.replay.specs.Machine.{Machine}
-use Rattle.replay.specs.Instructions.{isOuter, TileName, tileNamed}
-use Rattle.replay.specs.Execution.{accepted}
-use Rattle.replay.specs.Lists.{played}
-use Rattle.replay.specs.Demand3.{Asked}
+use Rattle.machine.specs.Machine.{Machine}
+use Rattle.machine.specs.Instructions.{isOuter, TileName, tileNamed}
+use Rattle.machine.specs.Execution.{accepted}
+use Rattle.machine.specs.Lists.{played}
+use Rattle.machine.specs.Demand3.{Asked}
 use Rattle.pairs.specs.Order.{inTurn, hasRow, orderMatters, telling, modesOn}
 
 abbrev pub Bytes : List ℕ → Type 0

@@ -12,10 +12,10 @@ use Rattle.isa.specs.declared.Decoded.the-variants.{Accepted, Refused}
 use Rattle.storage.specs.Sizes.{zSize, pSize, zaSize}
 use Rattle.storage.specs.Tile.{inTile}
 use Rattle.outer.specs.declared.OuterProduct.{OuterProduct}
-use Rattle.replay.specs.declared.Bench.{Bench}
-use Rattle.replay.specs.Machine.{Machine, on}
-use Rattle.replay.specs.Instructions.{outerOf, TileName, tileNamed}
-use Rattle.replay.specs.Lists.{played}
+use Rattle.machine.specs.declared.Bench.{Bench}
+use Rattle.machine.specs.Machine.{Machine, on}
+use Rattle.machine.specs.Instructions.{outerOf, TileName, tileNamed}
+use Rattle.machine.specs.Lists.{played}
 
 -- a word, then another
 abbrev pub inTurn : Machine → ℕ → ℕ → Machine

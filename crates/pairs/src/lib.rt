@@ -4,7 +4,7 @@ ghost use mathlib.Core.Bool.{true};
 ghost use mathlib.Core.Option.{some};
 ghost use Prim.Native.Nat.{_<_};
 ghost use Rattle.isa.specs.Table.{inRange, elementBytes};
-ghost use Rattle.replay.specs.Instructions.{tileNamed};
+ghost use Rattle.machine.specs.Instructions.{tileNamed};
 ghost use Rattle.pairs.specs.Order.{clash, orderMatters};
 use isa::Decoded;
 use isa::Instruction;

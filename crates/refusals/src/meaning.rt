@@ -32,6 +32,8 @@ fn write_meaning(fd: i32, r: Refusal) -> bool {
             fd,
             b"the tile has a row that no earlier ZERO of the list cleared",
         ),
+        Refusal::Version => io::write_all(fd, b"the file has another version than 1"),
+        Refusal::Format => io::write_all(fd, b"the file is no capture"),
     }
 }
 

@@ -3,8 +3,8 @@
 use checks::Fill;
 use checks::part;
 use libc::STDOUT_FILENO;
-use replay::Bench;
-use replay::Outcome;
+use machine::Bench;
+use machine::Outcome;
 use text::Printed;
 
 const FLAGS: u32 = 15;
@@ -63,8 +63,8 @@ fn with_zero(z: &[u8], p: &[u8], zero: u32) {
 fn run_from_both(name: &[u8], z: &[u8], p: &[u8], words: &[u32]) {
     let mut old = old_sums();
     let mut zeros = [0u8; 256];
-    let ended = replay::run(bench(), z, p, &mut old, words);
-    let again = replay::run(bench(), z, p, &mut zeros, words);
+    let ended = machine::run(bench(), z, p, &mut old, words);
+    let again = machine::run(bench(), z, p, &mut zeros, words);
     io::write_all(STDOUT_FILENO, name);
     part(b": executed ", ended.count as u64);
     part(b" of ", words.len() as u64);
@@ -104,8 +104,8 @@ fn write_stop(words: &[u32], place: usize, outcome: Outcome) {
 fn play_from_both(z: &[u8], p: &[u8]) {
     let mut old = old_sums();
     let mut zeros = [0u8; 256];
-    replay::play(bench(), z, p, &mut old, &KERNEL);
-    replay::play(bench(), z, p, &mut zeros, &KERNEL);
+    machine::play(bench(), z, p, &mut old, &KERNEL);
+    machine::play(bench(), z, p, &mut zeros, &KERNEL);
     io::write_all(STDOUT_FILENO, b"without its zero, word by word");
     write_differing(&old, &zeros);
 }

@@ -12,7 +12,7 @@ use checks::part;
 use checks::plus;
 use isa::Decoded;
 use libc::STDOUT_FILENO;
-use replay::Bench;
+use machine::Bench;
 
 const ALL_FEATURES: u32 = 15;
 
@@ -127,9 +127,9 @@ fn played(bench: Bench, z: &[u8], p: &[u8], za: &mut [u8], start: &[u8], words: 
 {
     let mut back = [0u32; LIST_WORDS];
     undoing(bench, z, p, za, words, &mut back);
-    replay::play(bench, z, p, za, words);
+    machine::play(bench, z, p, za, words);
     let changed = differing(za, start) > 0;
-    replay::play(bench, z, p, za, &back);
+    machine::play(bench, z, p, za, &back);
     Tally {
         lists: 1,
         words: words.len() as u64,
@@ -146,7 +146,7 @@ fn undoing(bench: Bench, z: &[u8], p: &[u8], za: &[u8], words: &[u32], back: &mu
     let mut i = 0;
     while i < words.len() {
         let word = words[words.len() - 1 - i];
-        back[i] = replay::exchange(bench, z, p, za, word);
+        back[i] = machine::exchange(bench, z, p, za, word);
         i += 1;
     }
 }

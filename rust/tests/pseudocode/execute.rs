@@ -28,11 +28,8 @@ pub fn execute(bench: Bench, z: &[u8], p: &[u8], za: &mut [u8], word: u32) -> Re
 
 /// Runs a list up to the first word refused: the number of words executed, and the refusal.
 pub fn run(bench: Bench, z: &[u8], p: &[u8], za: &mut [u8], words: &[u32]) -> (usize, Option<Refused>) {
-    if let Err(refused) = check(bench, z, p, za) {
+    if let Err(refused) = check_run(bench, z, p, za, words) {
         return (0, Some(refused));
-    }
-    if words.len() > MOST_WORDS {
-        return (0, Some(Refused::by(6)));
     }
     let mut cleared = vec![false; bench.vb];
     for (count, &word) in words.iter().enumerate() {
@@ -58,6 +55,12 @@ fn admit_next(bench: Bench, cleared: &mut [bool], word: u32) -> Result<Instructi
             Ok(instruction)
         }
     }
+}
+
+/// Refusals 1 to 6, by which no run begins.
+pub fn check_run(bench: Bench, z: &[u8], p: &[u8], za: &[u8], words: &[u32]) -> Result<(), Refused> {
+    check(bench, z, p, za)?;
+    if words.len() > MOST_WORDS { Err(Refused::by(6)) } else { Ok(()) }
 }
 
 /// Refusals 1 to 5, which no word has a part in.

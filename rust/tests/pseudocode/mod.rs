@@ -1,6 +1,7 @@
 //! An independent implementation, written from Arm's pseudocode and the rules of the bench, to hold the library
 //! against. Refusals are plain numbers here, and so are the flags that a word lacks.
 
+pub mod capture;
 mod execute;
 mod fields;
 mod order;
@@ -8,7 +9,7 @@ mod read;
 mod text;
 mod tiles;
 
-pub use execute::{Bench, MOST_WORDS, execute, run};
+pub use execute::{Bench, MOST_WORDS, check_run, execute, run};
 pub use fields::describe;
 pub use order::order_matters;
 pub use read::read;

@@ -1,46 +1,36 @@
 //! Lines of text and what can be wrong with them, for `read`.
 
-use super::{Random, tiles};
+use super::{Damage, Random, tiles};
 use crate::pseudocode;
 use std::iter;
-
-/// A sort of damage to a line.
-#[derive(Clone, Copy)]
-pub struct Damage {
-    pub name: &'static str,
-    /// The damage to a text; now and then it finds nothing to do.
-    pub harm: fn(&mut Random, Vec<u8>) -> Vec<u8>,
-    /// Whether the text of another word may come of it.
-    pub leaves_texts: bool,
-}
 
 /// How many sorts of damage are to a byte or a part of a line; these come first.
 pub const SMALL: usize = 17;
 
-/// The sorts of damage.
+/// The sorts of damage to a line; where one leaves a good line, that is the text of another word.
 pub const DAMAGES: [Damage; 22] = [
-    Damage { name: "a byte changed", harm: change, leaves_texts: true },
-    Damage { name: "a byte left out", harm: leave_out, leaves_texts: true },
-    Damage { name: "a byte doubled", harm: double, leaves_texts: true },
-    Damage { name: "neighbours exchanged", harm: exchange, leaves_texts: true },
-    Damage { name: "capitals", harm: capitals, leaves_texts: false },
-    Damage { name: "a space more", harm: space, leaves_texts: false },
-    Damage { name: "a leading zero", harm: leading_zero, leaves_texts: false },
-    Damage { name: "another number", harm: number, leaves_texts: true },
-    Damage { name: "another suffix", harm: suffix, leaves_texts: true },
-    Damage { name: "another name", harm: name, leaves_texts: true },
-    Damage { name: "operands exchanged", harm: exchange_operands, leaves_texts: true },
-    Damage { name: "an operand repeated", harm: repeat_operand, leaves_texts: true },
-    Damage { name: "braces", harm: braces, leaves_texts: false },
-    Damage { name: "tiles in another order", harm: tiles::exchange, leaves_texts: false },
-    Damage { name: "a tile in halves", harm: tiles::split, leaves_texts: false },
-    Damage { name: "a tile beside one that holds it", harm: tiles::repeat, leaves_texts: false },
-    Damage { name: "another tile", harm: tiles::rename, leaves_texts: true },
-    Damage { name: "cut short", harm: cut, leaves_texts: false },
-    Damage { name: "a line end", harm: line_end, leaves_texts: false },
-    Damage { name: "a great length", harm: lengthen, leaves_texts: false },
-    Damage { name: "other bytes", harm: other_bytes, leaves_texts: false },
-    Damage { name: "no bytes", harm: |_, _| Vec::new(), leaves_texts: false },
+    Damage { name: "a byte changed", harm: change, leaves_good: true },
+    Damage { name: "a byte left out", harm: leave_out, leaves_good: true },
+    Damage { name: "a byte doubled", harm: double, leaves_good: true },
+    Damage { name: "neighbours exchanged", harm: exchange, leaves_good: true },
+    Damage { name: "capitals", harm: capitals, leaves_good: false },
+    Damage { name: "a space more", harm: space, leaves_good: false },
+    Damage { name: "a leading zero", harm: leading_zero, leaves_good: false },
+    Damage { name: "another number", harm: number, leaves_good: true },
+    Damage { name: "another suffix", harm: suffix, leaves_good: true },
+    Damage { name: "another name", harm: name, leaves_good: true },
+    Damage { name: "operands exchanged", harm: exchange_operands, leaves_good: true },
+    Damage { name: "an operand repeated", harm: repeat_operand, leaves_good: true },
+    Damage { name: "braces", harm: braces, leaves_good: false },
+    Damage { name: "tiles in another order", harm: tiles::exchange, leaves_good: false },
+    Damage { name: "a tile in halves", harm: tiles::split, leaves_good: false },
+    Damage { name: "a tile beside one that holds it", harm: tiles::repeat, leaves_good: false },
+    Damage { name: "another tile", harm: tiles::rename, leaves_good: true },
+    Damage { name: "cut short", harm: cut, leaves_good: false },
+    Damage { name: "a line end", harm: line_end, leaves_good: false },
+    Damage { name: "a great length", harm: lengthen, leaves_good: false },
+    Damage { name: "other bytes", harm: other_bytes, leaves_good: false },
+    Damage { name: "no bytes", harm: |_, _| Vec::new(), leaves_good: false },
 ];
 
 /// What texts are made of.

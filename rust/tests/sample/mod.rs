@@ -1,17 +1,23 @@
-//! Repeatable random inputs, buffers with guards around them, and a tally of what the cases came to.
+//! Repeatable random inputs, buffers with guards around them, programs to try, and a tally of what the cases came to.
 
 mod case;
+mod file;
 mod guarded;
 mod instruction;
+mod library;
 mod line;
+mod program;
 mod random;
 mod tally;
 mod tiles;
 
-pub use case::Case;
+pub use case::{Case, LENGTHS};
+pub use file::{FILE_DAMAGES, capture, capture_length, joined, lies, parts, with_lie};
 pub use guarded::Guarded;
 pub use instruction::instruction;
-pub use line::{DAMAGES, Damage, SMALL, text};
+pub use library::{bench, packed, refused};
+pub use line::{DAMAGES, SMALL, text};
+pub use program::{interrupt, start};
 pub use random::Random;
 pub use tally::Tally;
 
@@ -30,6 +36,16 @@ pub const LINES: [(u32, u32); 7] = [
     (0xA080_0008, 0x011F_FFF3),
     (0x8000_8008, 0x011E_03D3),
 ];
+
+/// A sort of damage to a line of text, or to a file.
+#[derive(Clone, Copy)]
+pub struct Damage {
+    pub name: &'static str,
+    /// The damage to what was good; now and then it finds nothing to do.
+    pub harm: fn(&mut Random, Vec<u8>) -> Vec<u8>,
+    /// Whether what comes of it may be good too.
+    pub leaves_good: bool,
+}
 
 /// ZERO of all of ZA.
 pub const ZERO_ALL: u32 = 0xC008_00FF;

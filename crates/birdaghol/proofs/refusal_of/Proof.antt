@@ -1,8 +1,8 @@
 -- `birdaghol::refusal_of` meets its contract, by the outcome. Assumes nothing.
 use mathlib.Core.Path.{_∙_, sym, ap}
 use borrow.Author.Needs.{needs}
-use Rattle.replay.specs.declared.Outcome.{Outcome}
-use Rattle.replay.specs.Execution.{outcomeRefusal}
+use Rattle.machine.specs.declared.Outcome.{Outcome}
+use Rattle.machine.specs.Execution.{outcomeRefusal}
 use Rattle.birdaghol.specs.Calls.{answer}
 use Rattle.birdaghol.proofs.refusal_of.Statement.{statement}
 use Rattle.birdaghol.proofs.refusal_of.Tie as tie

@@ -7,7 +7,7 @@ use borrow.Author.Needs.{needs}
 use borrow.Author.Tests.{eq-eqb, ne-eqb, lt-ltb, le-ltb}
 use lib.Dec.{eqb, ltb}
 use lib.ListN.{length}
-use Rattle.replay.specs.Lists.{mostWords}
+use Rattle.machine.specs.Lists.{mostWords}
 use Rattle.order.specs.Pairs.{anyPair, countIn}
 use Rattle.order.proofs.judge.Statement.{statement}
 use Rattle.order.proofs.judge.Tie as tie

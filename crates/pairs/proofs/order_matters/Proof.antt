@@ -8,7 +8,7 @@ use Rattle.isa.specs.Answers.{decodeOf}
 use Rattle.isa.specs.declared.Decoded.{Decoded}
 use Rattle.isa.specs.declared.Decoded.the-variants.{Accepted}
 use Rattle.isa.proofs.Theorems.{accepted-in-range}
-use Rattle.replay.specs.Instructions.{TileName, tileNamed}
+use Rattle.machine.specs.Instructions.{TileName, tileNamed}
 use Rattle.pairs.specs.Order.{clash, tileDecoded, orderMatters}
 use Rattle.pairs.proofs.order_matters.Statement.{statement}
 use Rattle.pairs.proofs.order_matters.Tie as tie

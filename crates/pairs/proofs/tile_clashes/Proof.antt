@@ -2,7 +2,7 @@
 use mathlib.Core.Path.{_∙_, sym, ap}
 use borrow.Author.Needs.{needs}
 use Rattle.isa.specs.Table.{inRange}
-use Rattle.replay.proofs.Ready.{predicated-tile, quarter-tile}
+use Rattle.machine.proofs.Ready.{predicated-tile, quarter-tile}
 use Rattle.pairs.proofs.tile_clashes.Statement.{statement}
 use Rattle.pairs.proofs.tile_clashes.Tie as tie
 

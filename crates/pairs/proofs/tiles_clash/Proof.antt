@@ -4,7 +4,7 @@ use mathlib.Core.Bool.{not, _&&_}
 use Prim.Native.Nat.{ℕ, _%_}
 use lib.Dec.{eqb}
 use borrow.Author.Needs.{needs}
-use Rattle.replay.proofs.Links.{element-width}
+use Rattle.machine.proofs.Links.{element-width}
 use Rattle.pairs.proofs.Tiles.{tiles-clash}
 use Rattle.pairs.proofs.tiles_clash.Statement.{statement}
 use Rattle.pairs.proofs.tiles_clash.Tie as tie

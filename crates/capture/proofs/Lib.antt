@@ -1,0 +1,9 @@
+pub mod Numbers
+pub mod Copies
+pub mod Partition
+pub mod Captures
+pub mod Writing
+pub mod Recovery
+pub mod Faults
+pub mod Theorems
+pub mod Examples
