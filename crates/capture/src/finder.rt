@@ -1,6 +1,5 @@
 // The parts of a file, and the capture that they are.
 ghost use mathlib.Core.Path.{_≡_};
-ghost use mathlib.Core.Bool.{Bool};
 ghost use Prim.Native.Nat.{_≤_};
 ghost use lib.ListN.{length, getD};
 ghost use Rattle.capture.specs.Steps.{Peels, Splits, FiveParts, benchAt, Finds};

@@ -7,7 +7,7 @@ ghost use lib.Seq.{sets};
 ghost use Rattle.isa.specs.Table.{allFlags};
 ghost use Rattle.machine.specs.Lists.{mostWords};
 ghost use Rattle.capture.specs.Format.{version, headOf, modes, wordBytes, part, bytesOfCapture, captureOf};
-ghost use Rattle.capture.specs.Outcomes.{writeOf, roomWritten, writtenNumber, writtenLength};
+ghost use Rattle.capture.specs.Outcomes.{writeOf, roomWritten};
 use crate::VERSION;
 use crate::Written;
 use crate::big_endian::put_bytes;

@@ -1,7 +1,6 @@
 // Writes ZA of a capture as a plain PGM image, which any viewer shows: VB by VB grey pixels, 0 black and 255 white, row by row. The
 // capture comes on standard input, the image goes to standard output. A file that is refused is told on standard error.
 ghost use mathlib.Core.Path.{_≡_};
-ghost use mathlib.Core.List.{_++_};
 ghost use Prim.Native.Nat.{_*_, _+_, _≤_, _<_};
 ghost use lib.ListN.{length};
 ghost use lib.Seq.{sets};

@@ -2,7 +2,6 @@
 // report goes to standard error: the bench, how many words were executed, where the run stopped and why, and which bytes of ZA
 // changed. A file that is refused is told there, and nothing is written.
 ghost use mathlib.Core.Path.{_≡_};
-ghost use mathlib.Core.List.{_++_};
 ghost use Prim.Native.Nat.{_*_, _-_, _≤_, _<_};
 ghost use lib.ListN.{length, drop};
 ghost use Rattle.machine.specs.Machine.{on};
