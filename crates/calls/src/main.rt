@@ -310,7 +310,7 @@ fn written(
     ends(file);
 }
 
-// The first bytes of a file, up to its words, and its last one.
+// The first bytes of a file, with its words, and the last one of its room.
 fn ends(file: &[u8]) {
     io::write_all(STDOUT_FILENO, b"file:");
     listed(checks::first(file, 21));
@@ -320,7 +320,7 @@ fn ends(file: &[u8]) {
     io::write_all(STDOUT_FILENO, b"\n");
 }
 
-// That file read back: whole, with a byte left over or missing, and nothing at all; as another version, and to a P that is too short.
+// That file read back: whole, with a byte left over or missing, and nothing of it; as another version, and to a P that is too short.
 fn captures_read(z: &[u8], p: &[u8]) {
     let mut long = [4u8; 33];
     read_back(b"whole", z, p, 1, 833, &mut long);

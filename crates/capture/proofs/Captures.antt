@@ -19,8 +19,8 @@ use Rattle.machine.specs.Lists.{mostWords, startTests}
 use Rattle.machine.specs.Claims.{Passes}
 use Rattle.machine.proofs.Tests.{bench-passes}
 use Rattle.machine.proofs.Numbers.{start-passes, start-passed}
-use Rattle.capture.specs.Format.{version, Capture, captureOf, modes, headOf, wordBytes, partsOf, joined, Short, bytesOfCapture, Below, Legal, Holds, NoCapture}
-use Rattle.capture.specs.Steps.{number2, wordsAt, bytesAt, PartAt, NoParts, FiveParts, Splits, zAt, pAt, zaAt, benchAt, captureAt, Captured}
+use Rattle.capture.specs.Format.{version, Capture, captureOf, modes, headOf, wordBytes, partsOf, joined, Short, bytesOfCapture, Below, Legal, Holds, NoCapture, number2}
+use Rattle.capture.specs.Steps.{wordsAt, bytesAt, PartAt, NoParts, FiveParts, Splits, zAt, pAt, zaAt, benchAt, captureAt, Captured}
 use Rattle.capture.specs.declared.Parts.{Parts}
 use Rattle.capture.specs.declared.Parts.the-variants.{Five, Fewer}
 use Rattle.capture.proofs.Numbers.{below-drop, below-take, length-bytesAt, big2-number, drop-four, length-wordBytes, length-wordsAt, below-wordsAt, wordBytes-at, wordBytes-same}

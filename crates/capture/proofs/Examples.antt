@@ -1,4 +1,4 @@
--- The sample is legal, and its file starts as written. Assumes nothing.
+-- The sample is legal, and its file is as written. Assumes nothing.
 use mathlib.Core.Path.{refl}
 use mathlib.Core.List.{[], _∷_}
 use Prim.Native.Nat.{ℕ, zero, suc, _<_}
@@ -29,6 +29,6 @@ the-sample =
         p-fit = below 32 254 256 (omega arith);
         za-fit = below 256 253 256 (omega arith);
       };
+      bytes = refl;
       size = refl;
-      start = refl;
     }

@@ -14,15 +14,16 @@ use Rattle.storage.specs.Sizes.{legal, zSize, pSize, zaSize}
 use Rattle.storage.specs.Bytes.{at}
 use Rattle.machine.specs.Lists.{mostWords}
 use Rattle.machine.specs.Claims.{Passes}
-use Rattle.capture.specs.Format.{version, Capture, headOf, partsOf, bytesOfCapture, Below, Holds, NoCapture}
+use Rattle.capture.specs.Format.{version, Capture, headOf, partsOf, bytesOfCapture, Below, Holds, NoCapture, number2}
 use Rattle.capture.specs.Outcomes.{OtherVersion}
-use Rattle.capture.specs.Steps.{number2, number4, bytesAt, PartAt, NoPart, NoParts, FiveParts, benchAt}
+use Rattle.capture.specs.Steps.{number4, bytesAt, PartAt, NoPart, NoParts, FiveParts, benchAt}
 use Rattle.capture.specs.Faults.{Parted, Fault, Malformed}
 use Rattle.capture.specs.Faults.Fault.{not-4-bytes, flags, modes-above-3, vector-length, no-multiple-of-4, too-many-words, z-length, p-length, za-length}
 use Rattle.capture.specs.Faults.Malformed.{empty, missing-or-left-over, faulty}
 use Rattle.capture.specs.Claims.{Faults}
 use Rattle.capture.proofs.Numbers.{length-bytesAt, length-wordBytes}
 use Rattle.capture.proofs.Partition.{no-length, no-bytes, whole-part, no-more, then-none, left-over, joined-same, five-joined, five-short}
+use Rattle.capture.proofs.Recovery.{this-version}
 use Rattle.capture.proofs.Captures.{nth, modes-most, vb-back, bounds, short-parts, found}
 
 -- ---- a fault is no capture's
@@ -51,16 +52,13 @@ module _ (file head words z p za : List ℕ) (q : Parted file head words z p za)
   faultless (p-length e) = e (ap (λ ts. length (nth ts 3)) same ∙ h .lawful .passes .p-size ∙ ap pSize (sym vb-is))
   faultless (za-length e) = e (ap (λ ts. length (nth ts 4)) same ∙ h .lawful .passes .za-size ∙ ap zaSize (sym vb-is))
 
-this-version : {file : List ℕ} → at file 0 ≡ version → OtherVersion file → ⊥
-this-version {file} e o = o .other (sym (ap (λ (l : List ℕ). at l 0) (o .is)) ∙ e)
-
 refused : (file : List ℕ) → Malformed file → (OtherVersion file → ⊥) × NoCapture file
 unfolding bytesOfCapture
 refused file (empty e) = (λ o. omega (arith, ap length (sym e ∙ o .is)), record { never = λ c h. omega (arith, ap length (sym e ∙ h .bytes)) })
 refused file (missing-or-left-over v n) =
-    (this-version v, record { never = λ c h. n _ _ _ _ _ (record { bytes = h .bytes; short = short-parts c (h .lawful) }) })
+    (this-version file v, record { never = λ c h. n _ _ _ _ _ (record { bytes = h .bytes; short = short-parts c (h .lawful) }) })
 refused file (faulty head words z p za q f) =
-    (this-version (ap (λ (l : List ℕ). at l 0) (q .bytes)), record { never = λ c h. faultless file head words z p za q c h f })
+    (this-version file (ap (λ (l : List ℕ). at l 0) (q .bytes)), record { never = λ c h. faultless file head words z p za q c h f })
 
 -- ---- a file of bytes has five parts, or not
 module _ (file : List ℕ) (bytes : Below 256 file) where

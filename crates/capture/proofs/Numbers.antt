@@ -26,6 +26,12 @@ below-take m (suc n) (x ∷ s) h b (suc k) = below-take m n s h (λ i. b (suc i)
 pub length-bytesAt : (s : List ℕ) (i n : ℕ) → i + n ≤ length s → length (bytesAt s i n) ≡ n
 length-bytesAt s i n h = length-take-le n (drop i s) (rw (length-drop i s) (omega arith))
 
+-- a prefix that is as long as asked for
+pub within : (n : ℕ) (l : List ℕ) → length (take n l) ≡ n → n ≤ length l
+within zero l e = omega arith
+within (suc n) [] e = absurd (omega arith)
+within (suc n) (x ∷ l) e = let h = within n l (omega (arith, e)) in omega arith
+
 -- ---- four bytes
 pub big4-number : (a b c d : ℕ) → a < 256 → b < 256 → c < 256 → d < 256 → big4 (((a * 256 + b) * 256 + c) * 256 + d) ≡ a ∷ b ∷ c ∷ d ∷ []
 big4-number a b c d ha hb hc hd =

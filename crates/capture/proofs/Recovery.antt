@@ -1,6 +1,6 @@
 -- What read answers, by what was found in the file. Assumes nothing.
 use mathlib.Core.Path.{_≡_, refl, sym, ap, _∙_}
-use mathlib.Core.Bool.{Bool, true, false, not, _&&_}
+use mathlib.Core.Bool.{Bool, true, false, not}
 use mathlib.Core.List.{List, _++_}
 use Prim.Native.Nat.{ℕ, _≤_, _<_}
 use native.Mathlib.Omega.{arith}
@@ -8,6 +8,7 @@ use lib.ListN.{length, drop}
 use lib.Seq.{drop-cons}
 use borrow.Author.Tests.{leb-true, le-leb, not-true, not-false}
 use Rattle.isa.specs.declared.Refusal.the-variants.{Room, Version, Format}
+use Rattle.isa.proofs.Rows.{both}
 use Rattle.storage.specs.Sizes.{zSize, pSize, zaSize}
 use Rattle.storage.specs.Bytes.{at}
 use Rattle.machine.specs.declared.Bench.{Bench}
@@ -30,7 +31,7 @@ pub read-another : (file : List ℕ) (b : Buffers) → 0 < length file → (at f
 read-another file b h d =
     another (record { first = at file 0; rest = drop 1 file; is = drop-cons file 0 0 h; other = d }) refl refl
 
-this-version : (file : List ℕ) → at file 0 ≡ version → OtherVersion file → ⊥
+pub this-version : (file : List ℕ) → at file 0 ≡ version → OtherVersion file → ⊥
 this-version file e o = o .other (sym (ap (λ (l : List ℕ). at l 0) (o .is)) ∙ e)
 
 -- ---- by what find answers
@@ -41,11 +42,6 @@ pub read-nothing : (file : List ℕ) (b : Buffers) (r : Found) → at file 0 ≡
 read-nothing file b r v q e = malformed (this-version file v) (rw e at q) refl refl
 
 -- ---- whether the contents fit
-both : (a b : Bool) → a && b ≡ true → (a ≡ true) × (b ≡ true)
-both true true e = (refl, refl)
-both true false e = let z : _≡_ {A = ℕ} 0 1 = cc in absurd (omega arith)
-both false b e = let z : _≡_ {A = ℕ} 0 1 = cc in absurd (omega arith)
-
 pub record Enough (n vb words z p za : ℕ) : Type 0 where
   pub for-words : n ≤ words
   pub for-z : zSize vb ≤ z

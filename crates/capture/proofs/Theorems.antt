@@ -10,7 +10,7 @@ use lib.Dec.{ltb}
 use borrow.Author.Tests.{ltb-true, ltb-false}
 use lib.ListN.{length, take, drop}
 use lib.Seq.{take-at, drop-at}
-use Rattle.isa.specs.Refusals.{missingIn, Test, firstFailure}
+use Rattle.isa.specs.Refusals.{missingIn, firstFailure}
 use Rattle.isa.specs.declared.Refusal.{Refusal}
 use Rattle.isa.specs.declared.Refusal.the-variants.{Room, Version, Format}
 use Rattle.isa.proofs.Refusals.{failure-++}
@@ -24,9 +24,10 @@ use Rattle.machine.specs.Lists.{mostWords, listTest}
 use Rattle.machine.specs.Claims.{FirstFive}
 use Rattle.machine.proofs.Numbers.{numberOf, Late, given, first-five, later, start-passes}
 use Rattle.capture.specs.Format.{Capture, bytesOfCapture, Legal, Holds, NoCapture}
-use Rattle.capture.specs.Outcomes.{writeTests, written, filled, over, writeOf, roomWritten, Buffers, Fits, holding, contentsOf, OtherVersion, Reads, longest, writtenNumber, writtenLength, readNumber}
+use Rattle.capture.specs.Outcomes.{roomTest, writeTests, written, filled, over, writeOf, roomWritten, Buffers, Fits, holding, contentsOf, OtherVersion, Reads, Refuses, longest, Roomy, writtenNumber, writtenLength, readNumber}
 use Rattle.capture.specs.Outcomes.Reads.{contents, another, malformed, too-long}
-use Rattle.capture.specs.Claims.{OneCapture, EveryAnswer, OneOutcome, BenchPasses, Writes, Suffices, WriteThenRead, inBuffers, WrittenAgain, ReadThenWrite}
+use Rattle.capture.specs.Outcomes.Refuses.{by-version, by-format}
+use Rattle.capture.specs.Claims.{OneCapture, Answers, EveryAnswer, OneOutcome, BenchPasses, Writes, Suffices, WriteThenRead, inBuffers, WrittenAgain, ReadThenWrite}
 use Rattle.capture.specs.declared.Written.the-variants.{Length}
 use Rattle.capture.specs.declared.Reading.{Reading}
 use Rattle.capture.specs.declared.Reading.the-variants.{Contents, Refused as NotRead}
@@ -115,22 +116,22 @@ every-answer file b after r q =
     untouched (malformed o m e l) n = l
     untouched (too-long c h f e l) n = l
 
+pub answered : {file : List ℕ} {b after : Buffers} {r : Reading} → Reads file b r after → Reads file b r after × Answers file b r
+answered {file} {b} {after} {r} q = (q, every-answer file b after r q)
+
 -- ---- writing
 module _ (c : Capture) (room : List ℕ) where
   abbrev size : ℕ
   size = length (bytesOfCapture c)
 
-  abbrev roomTest : Test
-  roomTest = record { fails = ltb (length room) size; gives = Room }
-
   -- test 6, then 12
   abbrev fromSix : Option Refusal
-  fromSix = firstFailure (listTest (length (c .words)) ∷ roomTest ∷ [])
+  fromSix = firstFailure (listTest (length (c .words)) ∷ roomTest c (length room) ∷ [])
 
   -- tests 1 to 5, then those
   write-is : writtenNumber (writeOf c (length room)) ≡ given (c .bench) (length (c .z)) (length (c .p)) (length (c .za)) fromSix
   unfolding writeOf
-  write-is = number-of (firstFailure (writeTests c (length room))) ∙ ap numberOf (failure-++ (benchTests (c .bench) (length (c .z)) (length (c .p)) (length (c .za))) (listTest (length (c .words)) ∷ roomTest ∷ []))
+  write-is = number-of (firstFailure (writeTests c (length room))) ∙ ap numberOf (failure-++ (benchTests (c .bench) (length (c .z)) (length (c .p)) (length (c .za))) (listTest (length (c .words)) ∷ roomTest c (length room) ∷ []))
     where
       number-of : (o : Option Refusal) → writtenNumber (written o size) ≡ numberOf o
       number-of none = refl
@@ -300,6 +301,16 @@ contents-there {b = b} q =
     let s = h .lawful .passes in
     let l = legal-length (b .vb) (s .length-legal) in
     record { words = w; z = s .z-size; p = s .p-size; za = s .za-size; vb-least = l .least; vb-most = l .most }
+
+-- where there is room for every capture, only 15 and 16 are left
+pub refused-roomy : {file : List ℕ} {before after : Buffers} {a : Reading} {r : Refusal} → Roomy before → Reads file before a after → a ≡ NotRead r → Refuses file r
+refused-roomy {file} {before} {after} {r = r} w q i = go (subst (λ (a : Reading). Reads file before a after) i q)
+  where
+    go : Reads file before (NotRead r) after → Refuses file r
+    go (contents c h f e l) = let z : _≡_ {A = ℕ} 0 1 = cc in absurd (omega arith)
+    go (another o e l) = let x : Version ≡ r = cc in subst (Refuses file) x (by-version o)
+    go (malformed o n e l) = let x : Format ≡ r = cc in subst (Refuses file) x (by-format o n)
+    go (too-long c h f e l) = absurd (f (suffices c (h .lawful) .for-contents before w))
 
 -- no refusal of a read hands anything back
 pub refused-plain : {file : List ℕ} {before after : Buffers} {r : Refusal} → Reads file before (NotRead r) after → missingIn r ≡ 0

@@ -10,14 +10,15 @@ use lib.Dec.{ltb}
 use lib.ListN.{length}
 use lib.Seq.{sets, sets-eq}
 use borrow.Author.Tests.{lt-ltb, le-ltb}
-use Rattle.isa.specs.Refusals.{Test, firstFailure}
+use Rattle.isa.specs.Refusals.{firstFailure}
 use Rattle.isa.specs.declared.Refusal.{Refusal}
 use Rattle.isa.specs.declared.Refusal.the-variants.{Room}
 use Rattle.isa.proofs.Refusals.{failed-before, passed-before}
 use Rattle.storage.proofs.Bytes.{sets-append}
 use Rattle.machine.specs.declared.Bench.{Bench}
 use Rattle.capture.specs.Format.{version, Capture, big4, modes, headOf, wordBytes, part, joined, bytesOfCapture}
-use Rattle.capture.specs.Outcomes.{captureTests, writeTests, over, writeOf, roomWritten}
+use Rattle.capture.specs.Outcomes.{captureTests, roomTest, writeTests, over, writeOf, roomWritten, writtenNumber, writtenLength}
+use Rattle.capture.specs.declared.Written.{Written}
 use Rattle.capture.specs.declared.Written.the-variants.{Length, Refused as NotWritten}
 use Rattle.capture.proofs.Numbers.{length-wordBytes}
 use Rattle.capture.proofs.Partition.{length-part}
@@ -85,19 +86,20 @@ all-put c room r1 r2 r3 r4 r5 e1 e2 e3 e4 e5 = e5 ∙ rw (e4, e3, e2, e1) (put-a
 pub put-over : (t room : List ℕ) → length t ≤ length room → sets room 0 t ≡ over t room
 put-over t room h = sets-eq t room 0 (omega arith) ∙ rw (zero-add (length t))
 
+-- ---- an answer and its numbers
+pub numbered : {a w : Written} {A : Type 0} → (a ≡ w) × A → (a ≡ w) × (A × ((writtenNumber a ≡ writtenNumber w) × (writtenLength a ≡ writtenLength w)))
+numbered h = (h .0, (h .1, (ap writtenNumber (h .0), ap writtenLength (h .0))))
+
 -- ---- the tests decide
 module _ (c : Capture) (room : List ℕ) where
-  abbrev roomTest : Test
-  roomTest = record { fails = ltb (length room) (length (bytesOfCapture c)); gives = Room }
-
   pub write-refused : (r : Refusal) → firstFailure (captureTests c) ≡ some r → (NotWritten r ≡ writeOf c (length room)) × (room ≡ roomWritten c room)
   unfolding writeOf roomWritten
   write-refused r h =
-      let e : firstFailure (writeTests c (length room)) ≡ some r = failed-before (captureTests c) (roomTest ∷ []) r h in
+      let e : firstFailure (writeTests c (length room)) ≡ some r = failed-before (captureTests c) (roomTest c (length room) ∷ []) r h in
       (rw e, rw e)
 
   tested : (b : Bool) → firstFailure (captureTests c) ≡ none → ltb (length room) (length (bytesOfCapture c)) ≡ b → firstFailure (writeTests c (length room)) ≡ firstFailure (record { fails = b; gives = Room } ∷ [])
-  tested b h e = passed-before (captureTests c) (roomTest ∷ []) h ∙ rw e
+  tested b h e = passed-before (captureTests c) (roomTest c (length room) ∷ []) h ∙ rw e
 
   pub write-short : firstFailure (captureTests c) ≡ none → length room < 25 + 4 * length (c .words) + length (c .z) + length (c .p) + length (c .za)
       → (NotWritten Room ≡ writeOf c (length room)) × (room ≡ roomWritten c room)

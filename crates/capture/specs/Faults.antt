@@ -8,8 +8,7 @@ use Rattle.isa.specs.Table.{allFlags}
 use Rattle.storage.specs.Sizes.{legal, zSize, pSize, zaSize}
 use Rattle.storage.specs.Bytes.{at}
 use Rattle.machine.specs.Lists.{mostWords}
-use Rattle.capture.specs.Format.{version, joined, Short}
-use Rattle.capture.specs.Steps.{number2}
+use Rattle.capture.specs.Format.{version, joined, Short, number2}
 
 -- the file is the version, five parts, and nothing more
 pub record Parted (file head words z p za : List ℕ) : Type 0 where

@@ -2,7 +2,7 @@
 use mathlib.Core.Path.{_≡_}
 use mathlib.Core.Bool.{Bool, cond}
 use mathlib.Core.List.{List, [], _∷_, _++_}
-use Prim.Native.Nat.{ℕ, _+_, _/_, _%_, _≤_, _<_}
+use Prim.Native.Nat.{ℕ, _+_, _*_, _/_, _%_, _≤_, _<_}
 use lib.ListN.{length}
 use Rattle.storage.specs.Bytes.{at}
 use Rattle.machine.specs.declared.Bench.{Bench}
@@ -30,6 +30,10 @@ big2 v = v / 256 % 256 ∷ v % 256 ∷ []
 
 abbrev pub big4 : ℕ → List ℕ
 big4 v = v / 16777216 % 256 ∷ v / 65536 % 256 ∷ v / 256 % 256 ∷ v % 256 ∷ []
+
+-- the number whose two bytes stand from i on
+abbrev pub number2 : List ℕ → ℕ → ℕ
+number2 s i = at s i * 256 + at s (i + 1)
 
 -- 1 streaming, 2 ZA, summed
 abbrev pub modes : Bool → Bool → ℕ

@@ -23,8 +23,11 @@ abbrev pub captureTests : Capture → List Test
 captureTests c = startTests (c .bench) (length (c .z)) (length (c .p)) (length (c .za)) (length (c .words))
 
 -- then 12
+abbrev pub roomTest : Capture → ℕ → Test
+roomTest c room = record { fails = ltb room (length (bytesOfCapture c)); gives = Room }
+
 abbrev pub writeTests : Capture → ℕ → List Test
-writeTests c room = captureTests c ++ (record { fails = ltb room (length (bytesOfCapture c)); gives = Room } ∷ [])
+writeTests c room = captureTests c ++ (roomTest c room ∷ [])
 
 -- contents at the start of a buffer, and what is past them as it was
 abbrev pub over : List ℕ → List ℕ → List ℕ
@@ -83,6 +86,11 @@ pub data Reads (file : List ℕ) (before : Buffers) (r : Reading) (after : Buffe
   malformed : (OtherVersion file → ⊥) → NoCapture file → r ≡ NotRead Format → after ≡ before → Reads file before r after
   too-long : (c : Capture) → Holds file c → (Fits c before → ⊥) → r ≡ NotRead Room → after ≡ before → Reads file before r after
 
+-- why a file is none, where there is room enough: 15 or 16
+pub data Refuses (file : List ℕ) : Refusal → Type 0 where
+  by-version : OtherVersion file → Refuses file Version
+  by-format : (OtherVersion file → ⊥) → NoCapture file → Refuses file Format
+
 -- ---- room for every capture: as many words as a run takes, vectors of 256 bytes, and their file
 abbrev pub longest : ℕ
 longest = 336409
@@ -101,6 +109,12 @@ writtenNumber a = refusalNumber (writtenRefusal a)
 abbrev pub writtenLength : Written → ℕ
 writtenLength (Length n) = n
 writtenLength (NotWritten r) = 0
+
+abbrev pub writeNumber : Capture → ℕ → ℕ
+writeNumber c room = writtenNumber (writeOf c room)
+
+abbrev pub writeLength : Capture → ℕ → ℕ
+writeLength c room = writtenLength (writeOf c room)
 
 abbrev pub readRefusal : Reading → Option Refusal
 readRefusal (Contents b words) = none

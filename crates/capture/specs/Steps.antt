@@ -1,4 +1,4 @@
--- The words of this crate's own contracts: numbers and parts by their places in a file.
+-- What the contracts of private functions cite: numbers and parts by their places in a file.
 use mathlib.Core.Path.{_≡_}
 use mathlib.Core.Bool.{Bool, _&&_}
 use mathlib.Core.List.{List, [], _∷_, _++_}
@@ -9,7 +9,7 @@ use Rattle.storage.specs.Sizes.{zSize, pSize, zaSize}
 use Rattle.storage.specs.Bytes.{at}
 use Rattle.machine.specs.declared.Bench.{Bench}
 use Rattle.machine.specs.Lists.{mostWords}
-use Rattle.capture.specs.Format.{Capture, captureOf, part, joined, Short, Holds, NoCapture}
+use Rattle.capture.specs.Format.{number2, Capture, captureOf, part, joined, Short, Holds, NoCapture}
 use Rattle.capture.specs.declared.Part.{Part}
 use Rattle.capture.specs.declared.Part.the-variants.{Whole, Missing}
 use Rattle.capture.specs.declared.Parts.{Parts}
@@ -17,10 +17,7 @@ use Rattle.capture.specs.declared.Parts.the-variants.{Five, Fewer}
 use Rattle.capture.specs.declared.Found.{Found}
 use Rattle.capture.specs.declared.Found.the-variants.{Capture as Is, Nothing}
 
--- the numbers whose bytes, highest first, stand from i on
-abbrev pub number2 : List ℕ → ℕ → ℕ
-number2 s i = at s i * 256 + at s (i + 1)
-
+-- the number whose four bytes, highest first, stand from i on
 abbrev pub number4 : List ℕ → ℕ → ℕ
 number4 s i = ((at s i * 256 + at s (i + 1)) * 256 + at s (i + 2)) * 256 + at s (i + 3)
 

@@ -4,8 +4,8 @@ ghost use mathlib.Core.List.{_++_};
 ghost use Prim.Native.Nat.{_+_, _*_, _≤_};
 ghost use lib.ListN.{length, drop};
 ghost use lib.Seq.{sets};
-ghost use Rattle.capture.specs.Format.{big4, wordBytes};
-ghost use Rattle.capture.specs.Steps.{number2, number4, wordsAt, bytesAt};
+ghost use Rattle.capture.specs.Format.{big4, wordBytes, number2};
+ghost use Rattle.capture.specs.Steps.{number4, wordsAt, bytesAt};
 
 pub(crate) fn load_u16(s: &[u8], i: usize) -> u32
     requires { ⌜ i + 2 ≤ length (now s) ⌝ }

@@ -6,6 +6,7 @@ ghost use lib.ListN.{length, drop};
 ghost use Rattle.storage.specs.Sizes.{zSize, pSize, zaSize};
 ghost use Rattle.machine.specs.Lists.{mostWords};
 ghost use Rattle.capture.specs.Outcomes.{buffers, Reads};
+ghost use Rattle.capture.specs.Claims.{Answers};
 ghost use Rattle.capture.specs.Steps.{longEnough, wordsAt, bytesAt, zAt, pAt, zaAt};
 use crate::Found;
 use crate::Reading;
@@ -18,6 +19,7 @@ use isa::Refusal;
 // Puts the contents of a file at the starts of the buffers. What is past them stays; refused, all of it does.
 pub fn read(file: &[u8], words: &mut [u32], z: &mut [u8], p: &mut [u8], za: &mut [u8]) -> Reading
     ensures { λ r. ⌜ Reads (now (file .entry)) (buffers (now (words .entry)) (now (z .entry)) (now (p .entry)) (now (za .entry))) r (buffers (now (words .exit)) (now (z .exit)) (now (p .exit)) (now (za .exit))) ⌝ }
+    ensures { λ r. ⌜ Answers (now (file .entry)) (buffers (now (words .entry)) (now (z .entry)) (now (p .entry)) (now (za .entry))) r ⌝ }
 {
     if file.len() == 0 {
         return Reading::Refused(Refusal::Format);

@@ -7,7 +7,7 @@ ghost use lib.Seq.{sets};
 ghost use Rattle.isa.specs.Table.{allFlags};
 ghost use Rattle.machine.specs.Lists.{mostWords};
 ghost use Rattle.capture.specs.Format.{version, headOf, modes, wordBytes, part, bytesOfCapture, captureOf};
-ghost use Rattle.capture.specs.Outcomes.{writeOf, roomWritten};
+ghost use Rattle.capture.specs.Outcomes.{writeOf, roomWritten, writtenNumber, writtenLength, writeNumber, writeLength};
 use crate::VERSION;
 use crate::Written;
 use crate::big_endian::put_bytes;
@@ -21,6 +21,8 @@ use machine::Outcome;
 pub fn write(bench: Bench, words: &[u32], z: &[u8], p: &[u8], za: &[u8], room: &mut [u8]) -> Written
     ensures { λ r. ⌜ r ≡ writeOf (captureOf bench (now (words .entry)) (now (z .entry)) (now (p .entry)) (now (za .entry))) (length (now (room .entry))) ⌝ }
     ensures { λ _. ⌜ now (room .exit) ≡ roomWritten (captureOf bench (now (words .entry)) (now (z .entry)) (now (p .entry)) (now (za .entry))) (now (room .entry)) ⌝ }
+    ensures { λ r. ⌜ writtenNumber r ≡ writeNumber (captureOf bench (now (words .entry)) (now (z .entry)) (now (p .entry)) (now (za .entry))) (length (now (room .entry))) ⌝ }
+    ensures { λ r. ⌜ writtenLength r ≡ writeLength (captureOf bench (now (words .entry)) (now (z .entry)) (now (p .entry)) (now (za .entry))) (length (now (room .entry))) ⌝ }
 {
     match machine::check_run(bench, z.len(), p.len(), za.len(), words.len()) {
         Outcome::Refused(r) => Written::Refused(r),

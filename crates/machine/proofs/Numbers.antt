@@ -8,7 +8,7 @@ use Prim.Native.Nat.{ℕ, _≤_, _<_}
 use native.Mathlib.Omega.{arith}
 use lib.Dec.{eqb, ltb}
 use borrow.Author.Tests.{lt-ltb, le-ltb, eq-eqb, ne-eqb, ltb-true, ltb-false, eqb-true, eqb-false}
-use Rattle.isa.specs.Refusals.{firstFailure, orElse}
+use Rattle.isa.specs.Refusals.{refusalNumber, refusalMissing, firstFailure, orElse}
 use Rattle.isa.specs.Table.{allFlags}
 use Rattle.isa.specs.Answers.{describe, missing, absent, listingTests, decodeOf, decodeNumber}
 use Rattle.isa.specs.declared.Refusal.{Refusal}
@@ -16,14 +16,16 @@ use Rattle.isa.specs.declared.Refusal.the-variants.{Flags, VectorLength, ZLengt
 use Rattle.isa.specs.declared.Decoded.{Decoded}
 use Rattle.isa.specs.declared.Decoded.the-variants.{Accepted, Refused as NotDecoded}
 use Rattle.isa.proofs.Refusals.{failure-++}
+use Rattle.isa.proofs.Sums.{plain-sum}
 use Rattle.storage.specs.Sizes.{legal, zSize, pSize, zaSize}
 use Rattle.machine.specs.declared.Bench.{Bench}
 use Rattle.machine.specs.Instructions.{modesOf}
 use Rattle.machine.specs.declared.Modes.{Modes}
-use Rattle.machine.specs.Execution.{benchTests, wordTests, outcome, outcomeNumber}
+use Rattle.machine.specs.declared.Outcome.{Outcome}
+use Rattle.machine.specs.Execution.{benchTests, wordTests, outcome, outcomeNumber, outcomeMissing}
 use Rattle.machine.specs.Lists.{mostWords, listTest, startTests}
 use Rattle.machine.specs.Claims.{Passes, FirstFive}
-use Rattle.machine.proofs.Tests.{listing-refused, listing-accepted}
+use Rattle.machine.proofs.Tests.{outcome-back, listing-refused, listing-accepted}
 
 -- the number of an answer, 0 for none
 abbrev pub numberOf : Option Refusal → ℕ
@@ -87,6 +89,14 @@ module _ (b : Bench) (z p za : ℕ) where
 
       pub start-none : words ≤ mostWords → firstFailure (startTests b z p za words) ≡ none
       start-none l = start-by none h ∙ rw (le-ltb mostWords words l)
+
+    -- an answer and its numbers; none of these tests hands anything back
+    pub start-answered : {a : Outcome} → a ≡ outcome (firstFailure (startTests b z p za words))
+        → (a ≡ outcome (firstFailure (startTests b z p za words)))
+        × ((outcomeNumber a ≡ refusalNumber (firstFailure (startTests b z p za words))) × (outcomeMissing a ≡ 0))
+    start-answered e =
+        let back = outcome-back (firstFailure (startTests b z p za words)) in
+        (e, (ap outcomeNumber e ∙ ap refusalNumber back, ap outcomeMissing e ∙ ap refusalMissing back ∙ plain-sum (startTests b z p za words) refl))
 
     pub start-passes : Passes b z p za → words ≤ mostWords → firstFailure (startTests b z p za words) ≡ none
     start-passes h l = start-none (bench-passed h) l

@@ -1,7 +1,7 @@
 // Lists of words: a run, which stops at the first refused word, and a play, which goes on.
 ghost use mathlib.Core.Path.{_≡_};
 ghost use mathlib.Core.Option.{none};
-ghost use Rattle.isa.specs.Refusals.{firstFailure};
+ghost use Rattle.isa.specs.Refusals.{firstFailure, refusalNumber};
 ghost use Rattle.machine.specs.Machine.{on};
 ghost use Rattle.machine.specs.Execution.{machineTests, outcome, outcomeNumber, outcomeMissing};
 ghost use Rattle.machine.specs.Lists.{played, startTests, atStart, endOf, leftAtEnd, runOf, runLeft};
@@ -39,6 +39,8 @@ pub fn run(bench: Bench, z: &[u8], p: &[u8], za: &mut [u8], words: &[u32]) -> En
 // Tests 1 to 6, of a bench, the lengths of Z, P and ZA and the number of words: whether a run begins.
 pub fn check_run(bench: Bench, z: usize, p: usize, za: usize, words: usize) -> Outcome
     ensures { λ r. ⌜ r ≡ outcome (firstFailure (startTests bench z p za words)) ⌝ }
+    ensures { λ r. ⌜ outcomeNumber r ≡ refusalNumber (firstFailure (startTests bench z p za words)) ⌝ }
+    ensures { λ r. ⌜ outcomeMissing r ≡ 0 ⌝ }
 {
     match check_bench(bench, z, p, za) {
         Outcome::Refused(r) => Outcome::Refused(r),

@@ -1,1 +1,1 @@
-pub mod Pixels
+pub mod Images

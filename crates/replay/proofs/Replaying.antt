@@ -1,11 +1,9 @@
 -- What comes of a file, by what was read from it. Assumes nothing.
-use mathlib.Core.Path.{_≡_, refl, sym, ap, ap₂, subst, _∙_}
-use mathlib.Core.List.{List, [], _∷_}
-use Prim.Native.Nat.{ℕ, zero, suc, _≤_, _<_}
+use mathlib.Core.Path.{_≡_, sym, ap, ap₂, subst, _∙_}
+use mathlib.Core.List.{List}
+use Prim.Native.Nat.{ℕ, _≤_, _<_}
 use native.Mathlib.Omega.{arith}
-use lib.ListN.{length, take}
-use Rattle.isa.specs.declared.Refusal.{Refusal}
-use Rattle.isa.specs.declared.Refusal.the-variants.{Version, Format}
+use lib.ListN.{length}
 use Rattle.storage.proofs.Sizes.{legal-length}
 use Rattle.machine.specs.declared.Bench.{Bench}
 use Rattle.machine.specs.declared.Ended.{Ended}
@@ -14,38 +12,20 @@ use Rattle.machine.specs.Lists.{runOf, runLeft}
 use Rattle.machine.specs.Claims.{Passes}
 use Rattle.machine.proofs.Theorems.{run-keeps}
 use Rattle.capture.specs.Format.{Capture, captureOf, bytesOfCapture, Holds}
-use Rattle.capture.specs.Outcomes.{writeOf, roomWritten, Buffers, Reads, longest, Roomy}
-use Rattle.capture.specs.Outcomes.Reads.{contents, another as other, malformed as none, too-long}
+use Rattle.capture.specs.Outcomes.{writeOf, roomWritten, Buffers, Reads, longest}
 use Rattle.capture.specs.Claims.{inBuffers}
 use Rattle.capture.specs.declared.Reading.{Reading}
-use Rattle.capture.specs.declared.Reading.the-variants.{Contents, Refused as NotRead}
+use Rattle.capture.specs.declared.Reading.the-variants.{Contents}
 use Rattle.capture.specs.declared.Written.{Written}
 use Rattle.capture.proofs.Captures.{length-capture}
 use Rattle.capture.proofs.Theorems.{every-write, suffices, read-then-write, There, contents-there}
 use Rattle.replay.specs.Replays.{machineOf, endOf, afterRun, Replays, told}
-use Rattle.replay.specs.Replays.Replays.{ran, another, malformed}
+use Rattle.replay.specs.Replays.Replays.{ran, refused}
 use Rattle.replay.specs.declared.Replayed.{Replayed}
-use Rattle.replay.specs.declared.Replayed.the-variants.{Ran, Refused}
+use Rattle.replay.specs.declared.Replayed.the-variants.{Ran}
 
--- a prefix that is as long as asked for
-pub within : (n : ℕ) (l : List ℕ) → length (take n l) ≡ n → n ≤ length l
-within zero l e = omega arith
-within (suc n) [] e = absurd (omega arith)
-within (suc n) (x ∷ l) e = let h = within n l (omega (arith, e)) in omega arith
-
-module _ {file : List ℕ} {before after : Buffers} {a : Reading} (q : Reads file before a after) where
-  pub there : {b : Bench} {n : ℕ} → a ≡ Contents b n → There b n after
-  there e = contents-there (subst (λ (r : Reading). Reads file before r after) e q)
-
-  -- there is room for every capture, so that only 15 and 16 are left
-  pub replay-refused : {r : Refusal} (room : List ℕ) → a ≡ NotRead r → Roomy before → Replays file room (Refused r) room
-  replay-refused {r} room e w = go (subst (λ (a : Reading). Reads file before a after) e q)
-    where
-      go : Reads file before (NotRead r) after → Replays file room (Refused r) room
-      go (contents c h f e l) = let z : _≡_ {A = ℕ} 0 1 = cc in absurd (omega arith)
-      go (other o e l) = let x : r ≡ Version = cc in another o (ap {B = Replayed} Refused x) refl
-      go (none o n e l) = let x : r ≡ Format = cc in malformed o n (ap {B = Replayed} Refused x) refl
-      go (too-long c h f e l) = absurd (f (suffices c (h .lawful) .for-contents before w))
+pub there : {file : List ℕ} {before after : Buffers} {a : Reading} {b : Bench} {n : ℕ} → Reads file before a after → a ≡ Contents b n → There b n after
+there {file} {before} {after} q e = contents-there (subst (λ (r : Reading). Reads file before r after) e q)
 
 -- a run keeps every size, so that what it leaves is written as what was read would be
 module _ (file : List ℕ) (c : Capture) (h : Holds file c) where
@@ -93,5 +73,4 @@ ran-length {b = b} (ran c h f g) q =
     let l = legal-length (c .bench .vb) (h .lawful .passes .length-legal) in
     let y : b .vb ≡ c .bench .vb = ap (λ (v : Bench). v .vb) x in
     (omega (arith, l .least), omega (arith, l .most))
-ran-length (another o f g) q = let z : _≡_ {A = ℕ} 0 1 = cc in absurd (omega arith)
-ran-length (malformed o m f g) q = let z : _≡_ {A = ℕ} 0 1 = cc in absurd (omega arith)
+ran-length (refused o f g h) q = let z : _≡_ {A = ℕ} 0 1 = cc in absurd (omega arith)

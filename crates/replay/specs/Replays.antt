@@ -3,13 +3,13 @@ use mathlib.Core.Path.{_≡_}
 use mathlib.Core.List.{List}
 use Prim.Native.Nat.{ℕ}
 use lib.ListN.{length}
-use Rattle.isa.specs.declared.Refusal.the-variants.{Version, Format}
+use Rattle.isa.specs.declared.Refusal.{Refusal}
 use Rattle.machine.specs.declared.Bench.{Bench}
 use Rattle.machine.specs.declared.Ended.{Ended}
 use Rattle.machine.specs.Machine.{Machine, on}
 use Rattle.machine.specs.Lists.{runOf, runLeft}
-use Rattle.capture.specs.Format.{Capture, captureOf, bytesOfCapture, Holds, NoCapture}
-use Rattle.capture.specs.Outcomes.{over, OtherVersion}
+use Rattle.capture.specs.Format.{Capture, captureOf, bytesOfCapture, Holds}
+use Rattle.capture.specs.Outcomes.{over, Refuses}
 use Rattle.capture.specs.declared.Written.{Written}
 use Rattle.capture.specs.declared.Written.the-variants.{Length, Refused as NotWritten}
 use Rattle.replay.specs.declared.Replayed.{Replayed}
@@ -29,8 +29,7 @@ afterRun c = captureOf (c .bench) (c .words) (c .z) (c .p) (runLeft (machineOf c
 pub data Replays (file before : List ℕ) (r : Replayed) (after : List ℕ) : Type 0 where
   ran : (c : Capture) → Holds file c → r ≡ Ran (c .bench) (length (c .words)) (endOf c) (length file)
       → after ≡ over (bytesOfCapture (afterRun c)) before → Replays file before r after
-  another : OtherVersion file → r ≡ Refused Version → after ≡ before → Replays file before r after
-  malformed : (OtherVersion file → ⊥) → NoCapture file → r ≡ Refused Format → after ≡ before → Replays file before r after
+  refused : (q : Refusal) → Refuses file q → r ≡ Refused q → after ≡ before → Replays file before r after
 
 -- a run and what write answers of it
 abbrev pub told : Bench → ℕ → Ended → Written → Replayed

@@ -10,18 +10,18 @@ abbrev read-at : tie.After-bench → tie.After-read
 read-at c = c .before .before .before .before .before .before .before .before .before .before
 
 contents-number-requires : tie.Need-contents-number-requires
-contents-number-requires c κs = read-small (read-at (c .before) .read .ensures) (c .before .bench .given .1)
+contents-number-requires c κs = read-small (read-at (c .before) .read .ensures .0) (c .before .bench .given .1)
 
 mul-result : tie.Need-mul-result
-mul-result c = let b = c .before .before in omega (arith, contents-fit (read-at b .read .ensures) (b .bench .given .1) (c .contents-number .ensures))
+mul-result c = let b = c .before .before in omega (arith, contents-fit (read-at b .read .ensures .0) (b .bench .given .1) (c .contents-number .ensures))
 
 returns : tie.Need-returns
-returns c = let b = c .before .before in contents-packed (read-at b .read .ensures) (b .bench .given .1) (c .contents-number .ensures)
+returns c = let b = c .before .before in contents-packed (read-at b .read .ensures .0) (b .bench .given .1) (c .contents-number .ensures)
 
 returns-2 : tie.Need-returns-2
 returns-2 c =
     let r = c .before .before in
-    refusal-packed (r .before .before .before .before .before .before .before .before .before .before .read .ensures) (r .r .given .1) (c .refused .ensures)
+    refusal-packed (r .before .before .before .before .before .before .before .before .before .before .read .ensures .0) (r .r .given .1) (c .refused .ensures)
 
 pub birdaghol-capture-read-spec : {M : Type 1} → statement M
 birdaghol-capture-read-spec =

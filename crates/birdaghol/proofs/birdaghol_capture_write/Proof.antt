@@ -20,14 +20,14 @@ returns : tie.Need-returns
 returns c =
     let w = c .before .before .before .before .before in
     let e = rw (w .before .before .bench-of .ensures) at (w .write .ensures) in
-    (value-alone _ ∙ sym (ap packedWritten (sym (e .0) ∙ c .before .n .given .1)), e .1)
+    (value-alone _ ∙ sym (ap packedWritten (sym (e .0) ∙ c .before .n .given .1)), e .1 .0)
 
 returns-2 : tie.Need-returns-2
 returns-2 c =
     let r = c .before .before in
     let w = r .before .before .before .before in
     let e = rw (w .before .before .bench-of .ensures) at (w .write .ensures) in
-    (c .refused .ensures ∙ sym (ap packedWritten (sym (e .0) ∙ r .r .given .1)), e .1)
+    (c .refused .ensures ∙ sym (ap packedWritten (sym (e .0) ∙ r .r .given .1)), e .1 .0)
 
 pub birdaghol-capture-write-spec : {M : Type 1} → statement M
 birdaghol-capture-write-spec =

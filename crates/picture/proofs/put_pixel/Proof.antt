@@ -9,7 +9,7 @@ use Rattle.picture.proofs.put_pixel.Tie as tie
 
 returns : tie.Need-returns
 returns c =
-    let i = 4 * c .before .before .before .before .args .place in
+    let i = 15 + 4 * c .before .before .before .before .args .place in
     let e : i + 1 ≡ suc i = omega arith in
     let f : i + 2 ≡ suc (suc i) = omega arith in
     let g : i + 3 ≡ suc (suc (suc i)) = omega arith in
@@ -19,6 +19,7 @@ pub put-pixel-spec : {M : Type 1} → statement M
 put-pixel-spec =
     tie.close
     (tie.spec
+    (λ c. search needs)
     (λ c. search needs)
     (λ c κs. search needs)
     (λ c. search needs)

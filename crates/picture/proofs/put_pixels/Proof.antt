@@ -6,13 +6,13 @@ use native.Mathlib.Omega.{arith}
 use borrow.Author.Needs.{needs}
 use lib.ListN.{length, take}
 use lib.Seq.{sets, length-sets, take-all}
-use Rattle.picture.specs.Pixels.{pixels}
+use Rattle.picture.specs.Images.{pixels}
 use Rattle.picture.proofs.Drawing.{stored-pixel}
 use Rattle.picture.proofs.put_pixels.Statement.{statement}
 use Rattle.picture.proofs.put_pixels.Tie as tie
 
 abbrev Inv-loop : tie.InvT-loop
-Inv-loop za room₀ i₀ room i = (i ≤ length za) × (length room ≡ length room₀) × (room ≡ sets room₀ 0 (pixels 0 (take i za)))
+Inv-loop za room₀ i₀ room i = (i ≤ length za) × (length room ≡ length room₀) × (room ≡ sets room₀ 15 (pixels 0 (take i za)))
 
 abbrev μ-loop : tie.MeasureT-loop
 μ-loop za room₀ i₀ room i = length za - i

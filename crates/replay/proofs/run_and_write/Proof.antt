@@ -18,7 +18,7 @@ returns c =
     let w = r .before .before .before .before in
     let a = start (run-at w) .args in
     let ran = run-at w .run .ensures in
-    run-told (a .bench) (a .words .now) (a .z .now) (a .p .now) (a .za .now) _ (a .room .now) (ran .1 .0) (ran .0) (sym (r .r .given .1) ∙ w .write .ensures .0) (w .write .ensures .1)
+    run-told (a .bench) (a .words .now) (a .z .now) (a .p .now) (a .za .now) _ (a .room .now) (ran .1 .0) (ran .0) (sym (r .r .given .1) ∙ w .write .ensures .0) (w .write .ensures .1 .0)
 
 returns-2 : tie.Need-returns-2
 returns-2 c =
@@ -26,7 +26,7 @@ returns-2 c =
     let w = l .before .before .before .before in
     let a = start (run-at w) .args in
     let ran = run-at w .run .ensures in
-    run-told (a .bench) (a .words .now) (a .z .now) (a .p .now) (a .za .now) _ (a .room .now) (ran .1 .0) (ran .0) (sym (l .length .given .1) ∙ w .write .ensures .0) (w .write .ensures .1)
+    run-told (a .bench) (a .words .now) (a .z .now) (a .p .now) (a .za .now) _ (a .room .now) (ran .1 .0) (ran .0) (sym (l .length .given .1) ∙ w .write .ensures .0) (w .write .ensures .1 .0)
 
 pub run-and-write-spec : {M : Type 1} → statement M
 run-and-write-spec =

@@ -23,7 +23,7 @@ returns-4 c =
     let s = bench .before .before .before .before .before .before in
     let a = s .args in
     not-begun (a .file .now) (a .head) (a .words) (a .z) (a .p) (a .za) (s .pre .0) _ _ (bench .bench-at .ensures)
-    (outcome-refused _ _ (sym (c .enum-told .given .1) ∙ run .check-run .ensures))
+    (outcome-refused _ _ (sym (c .enum-told .given .1) ∙ run .check-run .ensures .0))
 
 returns-5 : tie.Need-returns-5
 returns-5 c =
@@ -36,7 +36,7 @@ returns-5 c =
     let a = s .args in
     found-begun (a .file .now) (a .head) (a .words) (a .z) (a .p) (a .za) (s .pre .0) _ (bench .bench-at .ensures)
     (λ i. omega (arith, head .before .shared-slice-known .given i)) (s .pre .1) (head .if1 .left) (words .if2 .left) (modes .if3 .left)
-    (outcome-done _ (sym (c .enum-told2 .given .1) ∙ run .check-run .ensures))
+    (outcome-done _ (sym (c .enum-told2 .given .1) ∙ run .check-run .ensures .0))
 
 pub capture-of-spec : {M : Type 1} → statement M
 capture-of-spec =

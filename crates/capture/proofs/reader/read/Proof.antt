@@ -3,18 +3,19 @@ use mathlib.Core.Path.{sym}
 use native.Mathlib.Omega.{arith}
 use native.Mathlib.Nat.{le-of-eq}
 use Rattle.capture.proofs.Recovery.{read-empty, read-another, read-nothing, is-capture, enough, read-short, read-done}
+use Rattle.capture.proofs.Theorems.{answered}
 use borrow.Author.Needs.{needs}
 use Rattle.capture.proofs.reader.read.Statement.{statement}
 use Rattle.capture.proofs.reader.read.Tie as tie
 
 returns : tie.Need-returns
-returns c = read-empty _ _ (c .if1 .taken)
+returns c = answered (read-empty _ _ (c .if1 .taken))
 
 returns-2 : tie.Need-returns-2
-returns-2 c = let a = c .before .before .before .before .before .before .before .before .args in read-another (a .file .now) _ (omega arith) (c .if2 .taken)
+returns-2 c = let a = c .before .before .before .before .before .before .before .before .args in answered (read-another (a .file .now) _ (omega arith) (c .if2 .taken))
 
 returns-3 : tie.Need-returns-3
-returns-3 c = read-nothing _ _ _ (c .before .before .before .if2 .left) (c .before .before .find .ensures) (c .enum-told .given .1)
+returns-3 c = answered (read-nothing _ _ _ (c .before .before .before .if2 .left) (c .before .before .find .ensures) (c .enum-told .given .1))
 
 long-enough-requires : tie.Need-long-enough-requires
 long-enough-requires c κs = is-capture _ _ _ _ (c .before .before .before .find .ensures) (c .before .bench .given .1) .vb-most
@@ -22,7 +23,7 @@ long-enough-requires c κs = is-capture _ _ _ _ (c .before .before .before .find
 returns-4 : tie.Need-returns-4
 returns-4 c =
     let a = c .before .before .before .before .before .before .before .before .before .before .before .before .before .before .args in
-    read-short (a .file .now) _ _ (a .words .now) (a .z .now) (a .p .now) (a .za .now) (is-capture _ _ _ _ (c .before .before .before .before .before .find .ensures) (c .before .before .before .bench .given .1)) (c .before .long-enough .ensures) (c .if3 .taken)
+    answered (read-short (a .file .now) _ _ (a .words .now) (a .z .now) (a .p .now) (a .za .now) (is-capture _ _ _ _ (c .before .before .before .before .before .find .ensures) (c .before .before .before .bench .given .1)) (c .before .long-enough .ensures) (c .if3 .taken))
 
 take-parts-requires : tie.Need-take-parts-requires
 take-parts-requires c κs =
@@ -35,8 +36,9 @@ returns-5 : tie.Need-returns-5
 returns-5 c =
     let a = c .before .before .before .before .before .before .before .before .before .before .before .before .before .before .before .before .before .before .before .before .before .before .before .before .before .before .before .args in
     let e = c .before .before .before .before .before .before .before .before .take-parts .ensures in
-    read-done (a .file .now) _ _ (a .words .now) (a .z .now) (a .p .now) (a .za .now) (is-capture _ _ _ _ (c .before .before .before .before .before .before .before .before .before .before .before .before .before .before .before .before .before .before .find .ensures) (c .before .before .before .before .before .before .before .before .before .before .before .before .before .before .before .before .bench .given .1))
-    (enough _ _ _ _ _ _ (c .before .before .before .before .before .before .before .before .before .before .before .before .before .before .long-enough .ensures) (c .before .before .before .before .before .before .before .before .before .before .before .before .before .if3 .left)) _ _ _ _ (e .0) (e .1 .0) (e .1 .1 .0) (e .1 .1 .1)
+    answered
+    (read-done (a .file .now) _ _ (a .words .now) (a .z .now) (a .p .now) (a .za .now) (is-capture _ _ _ _ (c .before .before .before .before .before .before .before .before .before .before .before .before .before .before .before .before .before .before .find .ensures) (c .before .before .before .before .before .before .before .before .before .before .before .before .before .before .before .before .bench .given .1))
+    (enough _ _ _ _ _ _ (c .before .before .before .before .before .before .before .before .before .before .before .before .before .before .long-enough .ensures) (c .before .before .before .before .before .before .before .before .before .before .before .before .before .if3 .left)) _ _ _ _ (e .0) (e .1 .0) (e .1 .1 .0) (e .1 .1 .1))
 
 pub read-spec : {M : Type 1} → statement M
 read-spec =

@@ -12,7 +12,7 @@ use Rattle.machine.proofs.lists.run.Tie as tie
 
 passed : (c : tie.After-enum-told) → (let a = c .before .before .before .before .before .before .before .args in
     firstFailure (runTests (on (a .bench) (a .z .now) (a .p .now) (a .za .now)) (a .words .now)) ≡ none)
-passed c = outcome-done _ (sym (c .enum-told .given .1) ∙ c .before .before .check-run .ensures)
+passed c = outcome-done _ (sym (c .enum-told .given .1) ∙ c .before .before .check-run .ensures .0)
 
 run-words-requires : tie.Need-run-words-requires
 run-words-requires c κs =
@@ -20,7 +20,7 @@ run-words-requires c κs =
     run-bench-passed (on (a .bench) (a .z .now) (a .p .now) (a .za .now)) (a .words .now) (passed (c .before))
 
 returns : tie.Need-returns
-returns c = run-unbegun _ _ _ (outcome-refused _ _ (sym (c .before .r .given .1) ∙ c .before .before .before .check-run .ensures))
+returns c = run-unbegun _ _ _ (outcome-refused _ _ (sym (c .before .r .given .1) ∙ c .before .before .before .check-run .ensures .0))
 
 returns-2 : tie.Need-returns-2
 returns-2 c =
