@@ -22,7 +22,7 @@ use Rattle.machine.proofs.Numbers.{start-passes, start-passed}
 use Rattle.capture.specs.Format.{version, Capture, captureOf, modes, headOf, wordBytes, partsOf, joined, Short, bytesOfCapture, Below, Legal, Holds, NoCapture, number2}
 use Rattle.capture.specs.Steps.{wordsAt, bytesAt, PartAt, NoParts, FiveParts, Splits, zAt, pAt, zaAt, benchAt, captureAt, Captured}
 use Rattle.capture.specs.declared.Parts.{Parts}
-use Rattle.capture.specs.declared.Parts.the-variants.{Five, Fewer}
+use Rattle.capture.specs.declared.Parts.the-variants.{Five, NotFive}
 use Rattle.capture.proofs.Numbers.{below-drop, below-take, length-bytesAt, big2-number, drop-four, length-wordBytes, length-wordsAt, below-wordsAt, wordBytes-at, wordBytes-same}
 use Rattle.capture.proofs.Partition.{length-part, joined-same, five, five-joined, five-short}
 
@@ -131,7 +131,7 @@ unfolding bytesOfCapture
 no-parts file n = record { never = λ c h. n .never (partsOf c) refl (short-parts c (h .lawful)) (ap (drop 1) (h .bytes)) }
 
 -- ---- what the five parts of a capture are
-pub record Matches (file : List ℕ) (k : Capture) (a b c d e : ℕ) : Type 0 where
+record Matches (file : List ℕ) (k : Capture) (a b c d e : ℕ) : Type 0 where
   pub head-size : a ≡ 4
   pub words-size : b ≡ 4 * length (k .words)
   pub z-size : c ≡ length (k .z)
@@ -141,7 +141,7 @@ pub record Matches (file : List ℕ) (k : Capture) (a b c d e : ℕ) : Type 0 wh
   pub bench : benchAt file ≡ k .bench
 
 module _ (file : List ℕ) (a b c d e : ℕ) (f : FiveParts file a b c d e) where
-  pub matched : (k : Capture) → Holds file k → Matches file k a b c d e
+  matched : (k : Capture) → Holds file k → Matches file k a b c d e
   unfolding bytesOfCapture
   matched k h =
       let v = head 2 (omega arith) in
@@ -280,5 +280,5 @@ module _ (file : List ℕ) (a b c d e : ℕ) (f : FiveParts file a b c d e) wher
 pub is-five : (file : List ℕ) (r : Parts) (a b c d e : ℕ) → Splits file r → r ≡ Five a b c d e → FiveParts file a b c d e
 is-five file r a b c d e q p = rw p at q
 
-pub is-fewer : (file : List ℕ) (r : Parts) → Splits file r → r ≡ Fewer → NoParts file 1 5
-is-fewer file r q p = rw p at q
+pub is-not-five : (file : List ℕ) (r : Parts) → Splits file r → r ≡ NotFive → NoParts file 1 5
+is-not-five file r q p = rw p at q

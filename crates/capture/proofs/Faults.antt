@@ -75,7 +75,7 @@ module _ (file : List ℕ) (bytes : Below 256 file) where
 
   data Split : Type 0 where
     whole : (a b c d e : ℕ) → FiveParts file a b c d e → Split
-    fewer : NoParts file 1 5 → Split
+    not-five : NoParts file 1 5 → Split
 
   split : 1 ≤ length file → Split
   split h = one (peel 1 h)
@@ -84,29 +84,29 @@ module _ (file : List ℕ) (bytes : Below 256 file) where
           → (t : Bool) → eqb (5 + a + 4 + b + 4 + c + 4 + d + 4 + e) (length file) ≡ t → Split
       ends a b c d e f g h i j true q = whole a b c d e (record { first = f; second = g; third = h; fourth = i; fifth = j; ends = sym (eqb-true _ _ q) })
       ends a b c d e f g h i j false q =
-          fewer (then-none file _ _ _ f (then-none file _ _ _ g (then-none file _ _ _ h (then-none file _ _ _ i (then-none file _ _ _ j (left-over file _ (j .within) (eqb-false _ _ q)))))))
+          not-five (then-none file _ _ _ f (then-none file _ _ _ g (then-none file _ _ _ h (then-none file _ _ _ i (then-none file _ _ _ j (left-over file _ (j .within) (eqb-false _ _ q)))))))
 
       five-parts : (a b c d : ℕ) → PartAt file 1 a → PartAt file (5 + a) b → PartAt file (5 + a + 4 + b) c → PartAt file (5 + a + 4 + b + 4 + c) d
           → ((n : ℕ) × PartAt file (5 + a + 4 + b + 4 + c + 4 + d) n) ⊎ NoPart file (5 + a + 4 + b + 4 + c + 4 + d) → Split
       five-parts a b c d f g h i (inl (e, j)) = ends a b c d e f g h i j (eqb (5 + a + 4 + b + 4 + c + 4 + d + 4 + e) (length file)) refl
-      five-parts a b c d f g h i (inr q) = fewer (then-none file _ _ _ f (then-none file _ _ _ g (then-none file _ _ _ h (then-none file _ _ _ i (no-more file _ _ q)))))
+      five-parts a b c d f g h i (inr q) = not-five (then-none file _ _ _ f (then-none file _ _ _ g (then-none file _ _ _ h (then-none file _ _ _ i (no-more file _ _ q)))))
 
       four : (a b c : ℕ) → PartAt file 1 a → PartAt file (5 + a) b → PartAt file (5 + a + 4 + b) c
           → ((n : ℕ) × PartAt file (5 + a + 4 + b + 4 + c) n) ⊎ NoPart file (5 + a + 4 + b + 4 + c) → Split
       four a b c f g h (inl (d, i)) = five-parts a b c d f g h i (peel _ (i .within))
-      four a b c f g h (inr q) = fewer (then-none file _ _ _ f (then-none file _ _ _ g (then-none file _ _ _ h (no-more file _ _ q))))
+      four a b c f g h (inr q) = not-five (then-none file _ _ _ f (then-none file _ _ _ g (then-none file _ _ _ h (no-more file _ _ q))))
 
       three : (a b : ℕ) → PartAt file 1 a → PartAt file (5 + a) b → ((n : ℕ) × PartAt file (5 + a + 4 + b) n) ⊎ NoPart file (5 + a + 4 + b) → Split
       three a b f g (inl (c, h)) = four a b c f g h (peel _ (h .within))
-      three a b f g (inr q) = fewer (then-none file _ _ _ f (then-none file _ _ _ g (no-more file _ _ q)))
+      three a b f g (inr q) = not-five (then-none file _ _ _ f (then-none file _ _ _ g (no-more file _ _ q)))
 
       two : (a : ℕ) → PartAt file 1 a → ((n : ℕ) × PartAt file (5 + a) n) ⊎ NoPart file (5 + a) → Split
       two a f (inl (b, g)) = three a b f g (peel _ (g .within))
-      two a f (inr q) = fewer (then-none file _ _ _ f (no-more file _ _ q))
+      two a f (inr q) = not-five (then-none file _ _ _ f (no-more file _ _ q))
 
       one : ((n : ℕ) × PartAt file 1 n) ⊎ NoPart file 1 → Split
       one (inl (a, f)) = two a f (peel _ (f .within))
-      one (inr q) = fewer (no-more file _ _ q)
+      one (inr q) = not-five (no-more file _ _ q)
 
   -- ---- five parts of a file that is no capture have a fault
   module _ (front : at file 0 ≡ version) (a b c d e : ℕ) (f : FiveParts file a b c d e) (n : NoCapture file) where
@@ -176,7 +176,7 @@ module _ (file : List ℕ) (bytes : Below 256 file) where
 
   faulted : at file 0 ≡ version → NoCapture file → Split → Malformed file
   faulted v n (whole a b c d e f) = faulty _ _ _ _ _ (parted v a b c d e f n) (by-head v a b c d e f n (eqb a 4) refl)
-  faulted v n (fewer q) = missing-or-left-over v (λ head words z p za h. q .never (head ∷ words ∷ z ∷ p ∷ za ∷ []) refl (h .short) (ap (drop 1) (h .bytes)))
+  faulted v n (not-five q) = missing-or-left-over v (λ head words z p za h. q .never (head ∷ words ∷ z ∷ p ∷ za ∷ []) refl (h .short) (ap (drop 1) (h .bytes)))
 
 pub faults : Faults
 faults file bytes = (λ h. malformed file bytes (h .0) (h .1), refused file)

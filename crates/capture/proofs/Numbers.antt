@@ -33,7 +33,7 @@ within (suc n) [] e = absurd (omega arith)
 within (suc n) (x ∷ l) e = let h = within n l (omega (arith, e)) in omega arith
 
 -- ---- four bytes
-pub big4-number : (a b c d : ℕ) → a < 256 → b < 256 → c < 256 → d < 256 → big4 (((a * 256 + b) * 256 + c) * 256 + d) ≡ a ∷ b ∷ c ∷ d ∷ []
+big4-number : (a b c d : ℕ) → a < 256 → b < 256 → c < 256 → d < 256 → big4 (((a * 256 + b) * 256 + c) * 256 + d) ≡ a ∷ b ∷ c ∷ d ∷ []
 big4-number a b c d ha hb hc hd =
     let e : (((a * 256 + b) * 256 + c) * 256 + d) / 16777216 % 256 ≡ a = omega arith in
     let f : (((a * 256 + b) * 256 + c) * 256 + d) / 65536 % 256 ≡ b = omega arith in

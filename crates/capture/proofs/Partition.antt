@@ -11,7 +11,7 @@ use Rattle.capture.specs.declared.Part.{Part}
 use Rattle.capture.specs.declared.Part.the-variants.{Whole, Missing}
 use Rattle.capture.proofs.Numbers.{number4-of, drop-big4, number4-lt, length-bytesAt}
 
-pub append-same : (a b x y : List ℕ) → length a ≡ length b → a ++ x ≡ b ++ y → (a ≡ b) × (x ≡ y)
+append-same : (a b x y : List ℕ) → length a ≡ length b → a ++ x ≡ b ++ y → (a ≡ b) × (x ≡ y)
 append-same a b x y h e =
     (sym (take-append-seam a x) ∙ ap (take (length a)) e ∙ take-at b y (length a) (sym h), sym (drop-append-seam a x) ∙ ap (drop (length a)) e ∙ drop-at b y (length a) (sym h))
 
@@ -19,7 +19,7 @@ pub length-part : (t : List ℕ) → length (part t) ≡ 4 + length t
 unfolding part
 length-part t = omega arith
 
-pub part-number : (s t rest : List ℕ) (i : ℕ) → length t < 4294967296 → drop i s ≡ part t ++ rest → number4 s i ≡ length t
+part-number : (s t rest : List ℕ) (i : ℕ) → length t < 4294967296 → drop i s ≡ part t ++ rest → number4 s i ≡ length t
 unfolding part
 part-number s t rest i h e = number4-of s i (length t) (t ++ rest) h e
 
@@ -39,7 +39,7 @@ joined-same (t ∷ ts) (u ∷ us) l s r e =
 
 -- ---- one part of a file
 module _ (file : List ℕ) (i : ℕ) where
-  pub part-room : (t rest : List ℕ) → drop i file ≡ part t ++ rest → 4 + length t ≤ length (drop i file)
+  part-room : (t rest : List ℕ) → drop i file ≡ part t ++ rest → 4 + length t ≤ length (drop i file)
   part-room t rest e = omega (arith, ap length e, length-append (part t) rest, length-part t)
 
   pub no-length : length file < i + 4 → i ≤ length file → NoPart file i

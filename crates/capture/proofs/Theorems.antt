@@ -17,7 +17,6 @@ use Rattle.isa.proofs.Refusals.{failure-++}
 use Rattle.storage.specs.Sizes.{zSize, pSize, zaSize}
 use Rattle.storage.specs.Bytes.{at}
 use Rattle.isa.specs.Table.{allFlags}
-use Rattle.storage.proofs.Sizes.{legal-length}
 use Rattle.machine.specs.declared.Bench.{Bench}
 use Rattle.machine.specs.Execution.{benchTests}
 use Rattle.machine.specs.Lists.{mostWords, listTest}
@@ -292,15 +291,13 @@ pub record There (b : Bench) (n : ℕ) (s : Buffers) : Type 0 where
   pub z : length (take (zSize (b .vb)) (s .z)) ≡ zSize (b .vb)
   pub p : length (take (pSize (b .vb)) (s .p)) ≡ pSize (b .vb)
   pub za : length (take (zaSize (b .vb)) (s .za)) ≡ zaSize (b .vb)
-  pub vb-least : 16 ≤ b .vb
   pub vb-most : b .vb ≤ 256
 
-pub contents-there : {file : List ℕ} {before after : Buffers} {b : Bench} {n : ℕ} → Reads file before (Contents b n) after → There b n after
-contents-there {b = b} q =
-    let (h, w) = in-buffers q in
+pub contents-there : {file : List ℕ} {before after : Buffers} {a : Reading} {b : Bench} {n : ℕ} → Reads file before a after → a ≡ Contents b n → There b n after
+contents-there {file} {before} {after} q e =
+    let (h, w) = in-buffers (subst (λ (r : Reading). Reads file before r after) e q) in
     let s = h .lawful .passes in
-    let l = legal-length (b .vb) (s .length-legal) in
-    record { words = w; z = s .z-size; p = s .p-size; za = s .za-size; vb-least = l .least; vb-most = l .most }
+    record { words = w; z = s .z-size; p = s .p-size; za = s .za-size; vb-most = bounds _ _ _ _ s .vb-most }
 
 -- where there is room for every capture, only 15 and 16 are left
 pub refused-roomy : {file : List ℕ} {before after : Buffers} {a : Reading} {r : Refusal} → Roomy before → Reads file before a after → a ≡ NotRead r → Refuses file r

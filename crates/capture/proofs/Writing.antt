@@ -28,11 +28,11 @@ use Rattle.capture.proofs.Captures.{length-capture}
 behind : (xs ys l : List ℕ) (i j : ℕ) → j ≡ i + length xs → sets (sets l i xs) j ys ≡ sets l i (xs ++ ys)
 behind xs ys l i j e = rw e (sym (sets-append xs ys l i))
 
-pub put-length : (t room : List ℕ) (i : ℕ) → sets (sets room i (big4 (length t))) (i + 4) t ≡ sets room i (part t)
+put-length : (t room : List ℕ) (i : ℕ) → sets (sets room i (big4 (length t))) (i + 4) t ≡ sets room i (part t)
 unfolding part
 put-length t room i = behind (big4 (length t)) t room i (i + 4) refl
 
-pub put-all : (c : Capture) (room : List ℕ)
+put-all : (c : Capture) (room : List ℕ)
     → sets
     (sets
     (sets (sets (sets room 0 (version ∷ part (headOf (c .bench)))) 9 (part (wordBytes (c .words)))) (13 + 4 * length (c .words)) (part (c .z)))

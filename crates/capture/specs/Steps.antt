@@ -13,7 +13,7 @@ use Rattle.capture.specs.Format.{number2, Capture, captureOf, part, join
 use Rattle.capture.specs.declared.Part.{Part}
 use Rattle.capture.specs.declared.Part.the-variants.{Whole, Missing}
 use Rattle.capture.specs.declared.Parts.{Parts}
-use Rattle.capture.specs.declared.Parts.the-variants.{Five, Fewer}
+use Rattle.capture.specs.declared.Parts.the-variants.{Five, NotFive}
 use Rattle.capture.specs.declared.Found.{Found}
 use Rattle.capture.specs.declared.Found.the-variants.{Capture as Is, Nothing}
 
@@ -58,7 +58,7 @@ pub record FiveParts (file : List ℕ) (a b c d e : ℕ) : Type 0 where
 
 abbrev pub Splits : List ℕ → Parts → Type 0
 Splits file (Five a b c d e) = FiveParts file a b c d e
-Splits file Fewer = NoParts file 1 5
+Splits file NotFive = NoParts file 1 5
 
 -- where the parts of a capture of n words stand
 abbrev pub zAt : ℕ → ℕ

@@ -32,26 +32,26 @@ fn five_parts(file: &[u8]) -> Parts
     ensures { λ r. ⌜ Splits (now (file .entry)) r ⌝ }
 {
     let Part::Whole(head) = part_at(file, 1) else {
-        return Parts::Fewer;
+        return Parts::NotFive;
     };
     let second = 5 + head;
     let Part::Whole(words) = part_at(file, second) else {
-        return Parts::Fewer;
+        return Parts::NotFive;
     };
     let third = second + 4 + words;
     let Part::Whole(z) = part_at(file, third) else {
-        return Parts::Fewer;
+        return Parts::NotFive;
     };
     let fourth = third + 4 + z;
     let Part::Whole(p) = part_at(file, fourth) else {
-        return Parts::Fewer;
+        return Parts::NotFive;
     };
     let fifth = fourth + 4 + p;
     let Part::Whole(za) = part_at(file, fifth) else {
-        return Parts::Fewer;
+        return Parts::NotFive;
     };
     if fifth + 4 + za != file.len() {
-        return Parts::Fewer;
+        return Parts::NotFive;
     }
     Parts::Five {
         head,
@@ -107,7 +107,7 @@ pub(crate) fn find(file: &[u8]) -> Found
     ensures { λ r. ⌜ Finds (now (file .entry)) r ⌝ }
 {
     match five_parts(file) {
-        Parts::Fewer => Found::Nothing,
+        Parts::NotFive => Found::Nothing,
         Parts::Five {
             head,
             words,

@@ -37,7 +37,7 @@ enum Part {
     Missing,
 }
 
-// The numbers of bytes of a file's five parts.
+// The numbers of bytes of a file's five parts, where there are five and nothing after them.
 enum Parts {
     Five {
         head: usize,
@@ -46,7 +46,7 @@ enum Parts {
         p: usize,
         za: usize,
     },
-    Fewer,
+    NotFive,
 }
 
 // A capture's bench and number of words, which say where its parts stand.

@@ -61,8 +61,8 @@ module _ {file : List ℕ} {before after : Buffers} {a : Reading} (q : Reads fil
     reads : Reads file before (Contents b n) after
     reads = subst (λ (r : Reading). Reads file before r after) e q
 
-    pub there : There b n after
-    there = contents-there reads
+    there : There b n after
+    there = contents-there q e
 
     pub show-drawn : (room next : List ℕ) (m : ℕ) → longestImage ≤ length room → m ≡ 15 + 4 * length (take (zaSize (b .vb)) (after .za))
         → next ≡ sets (header (b .vb) ++ drop 15 room) 15 (pixels 0 (take (zaSize (b .vb)) (after .za))) → Shows file room (Drawn m) next

@@ -18,14 +18,11 @@ use Rattle.capture.specs.declared.Reading.{Reading}
 use Rattle.capture.specs.declared.Reading.the-variants.{Contents}
 use Rattle.capture.specs.declared.Written.{Written}
 use Rattle.capture.proofs.Captures.{length-capture}
-use Rattle.capture.proofs.Theorems.{every-write, suffices, read-then-write, There, contents-there}
-use Rattle.replay.specs.Replays.{machineOf, endOf, afterRun, Replays, told}
+use Rattle.capture.proofs.Theorems.{every-write, suffices, read-then-write}
+use Rattle.replay.specs.Replays.{machineOf, endOfRun, afterRun, Replays, told}
 use Rattle.replay.specs.Replays.Replays.{ran, refused}
 use Rattle.replay.specs.declared.Replayed.{Replayed}
 use Rattle.replay.specs.declared.Replayed.the-variants.{Ran}
-
-pub there : {file : List ℕ} {before after : Buffers} {a : Reading} {b : Bench} {n : ℕ} → Reads file before a after → a ≡ Contents b n → There b n after
-there {file} {before} {after} q e = contents-there (subst (λ (r : Reading). Reads file before r after) e q)
 
 -- a run keeps every size, so that what it leaves is written as what was read would be
 module _ (file : List ℕ) (c : Capture) (h : Holds file c) where
@@ -39,18 +36,18 @@ module _ (file : List ℕ) (c : Capture) (h : Holds file c) where
   same-length = let e = ap length (h .bytes) in omega (arith, length-capture (afterRun c), length-capture c, same-za)
 
   written : (r : Replayed) (room next : List ℕ) → longest ≤ length room
-      → r ≡ told (c .bench) (length (c .words)) (endOf c) (writeOf (afterRun c) (length room)) → next ≡ roomWritten (afterRun c) room → Replays file room r next
+      → r ≡ told (c .bench) (length (c .words)) (endOfRun c) (writeOf (afterRun c) (length room)) → next ≡ roomWritten (afterRun c) room → Replays file room r next
   written r room next l e f =
       let fits : length (bytesOfCapture (afterRun c)) ≤ length room = omega (arith, same-length, ap length (h .bytes), suffices c (h .lawful) .for-file) in
       let w = every-write (afterRun c) room in
       let (a, b) = w .written (w .accepts .1 (passes, (h .lawful .words-most, fits))) in
       ran c h
-      (e ∙ ap (λ (a : Written). told (c .bench) (length (c .words)) (endOf c) a) a ∙ rw same-length)
+      (e ∙ ap (λ (a : Written). told (c .bench) (length (c .words)) (endOfRun c) a) a ∙ rw same-length)
       (f ∙ b)
 
 pub replay-ran : {file : List ℕ} {before after : Buffers} {a : Reading} {b : Bench} {n : ℕ} → Reads file before a after → a ≡ Contents b n
     → (r : Replayed) (room next : List ℕ) → longest ≤ length room
-    → (let c = inBuffers b n after in r ≡ told b (length (c .words)) (endOf c) (writeOf (afterRun c) (length room)))
+    → (let c = inBuffers b n after in r ≡ told b (length (c .words)) (endOfRun c) (writeOf (afterRun c) (length room)))
     → next ≡ roomWritten (afterRun (inBuffers b n after)) room → Replays file room r next
 replay-ran {file} {before} {after} {b = b} {n = n} q e =
     written file (inBuffers b n after) (read-then-write file before after b n (subst (λ (a : Reading). Reads file before a after) e q) .holds)

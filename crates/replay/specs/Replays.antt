@@ -19,15 +19,15 @@ use Rattle.replay.specs.declared.Replayed.the-variants.{Ran, Refused}
 abbrev pub machineOf : Capture → Machine
 machineOf c = on (c .bench) (c .z) (c .p) (c .za)
 
-abbrev pub endOf : Capture → Ended
-endOf c = runOf (machineOf c) (c .words)
+abbrev pub endOfRun : Capture → Ended
+endOfRun c = runOf (machineOf c) (c .words)
 
 abbrev pub afterRun : Capture → Capture
 afterRun c = captureOf (c .bench) (c .words) (c .z) (c .p) (runLeft (machineOf c) (c .words) .za)
 
 -- what is answered, and what stands in the room then: nothing new where the file is refused
 pub data Replays (file before : List ℕ) (r : Replayed) (after : List ℕ) : Type 0 where
-  ran : (c : Capture) → Holds file c → r ≡ Ran (c .bench) (length (c .words)) (endOf c) (length file)
+  ran : (c : Capture) → Holds file c → r ≡ Ran (c .bench) (length (c .words)) (endOfRun c) (length file)
       → after ≡ over (bytesOfCapture (afterRun c)) before → Replays file before r after
   refused : (q : Refusal) → Refuses file q → r ≡ Refused q → after ≡ before → Replays file before r after
 

@@ -163,10 +163,12 @@ fn write_end(words: &[u32], n: usize, ended: Ended) {
         return;
     };
     let place = ended.count;
-    if place < words.len() {
-        part(b"stopped at word ", place as u64 + 1);
-        write_word(words[place]);
-        tell(b"\n");
+    if place < n {
+        if place < words.len() {
+            part(b"stopped at word ", place as u64 + 1);
+            write_word(words[place]);
+            tell(b"\n");
+        }
     }
     tell(b"refused ");
     refusals::write_refusal(STDERR_FILENO, r);

@@ -3,9 +3,9 @@ use mathlib.Core.Path.{refl, sym}
 use native.Mathlib.Nat.{mul-le-mul}
 use native.Mathlib.Omega.{arith}
 use Rattle.capture.proofs.Numbers.{within}
-use Rattle.capture.proofs.Theorems.{refused-roomy}
+use Rattle.capture.proofs.Theorems.{refused-roomy, contents-there}
 use Rattle.picture.specs.Images.Shows.{refused}
-use Rattle.picture.proofs.Drawing.{there, show-drawn}
+use Rattle.picture.proofs.Drawing.{show-drawn}
 use borrow.Author.Needs.{needs}
 use Rattle.picture.proofs.show_file.Statement.{statement}
 use Rattle.picture.proofs.show_file.Tie as tie
@@ -15,12 +15,12 @@ abbrev read-at : tie.After-bench → tie.After-read
 read-at c = c .before .before .before .before .before .before .before .before .before .before
 
 mul-draw : tie.Need-mul-draw
-mul-draw c = let b = c .before in let l = there (read-at b .read .ensures .0) (b .bench .given .1) .vb-most in omega (arith, mul-le-mul l l)
+mul-draw c = let b = c .before in let l = contents-there (read-at b .read .ensures .0) (b .bench .given .1) .vb-most in omega (arith, mul-le-mul l l)
 
 draw-requires : tie.Need-draw-requires
 draw-requires c κs =
     let b = c .before .before .before in
-    let t = there (read-at b .read .ensures .0) (b .bench .given .1) in
+    let t = contents-there (read-at b .read .ensures .0) (b .bench .given .1) in
     let s = read-at b .before .before .before .before .before .before .before .before .before .before .before in
     (t .vb-most, omega (arith, t .za, mul-le-mul (t .vb-most) (t .vb-most)), s .pre .1)
 
@@ -47,8 +47,8 @@ show-file-spec =
     (λ c. search needs)
     (λ c. search needs)
     mul-draw
-    (λ c. let b = c .before in within _ _ (there (read-at b .read .ensures .0) (b .bench .given .1) .za))
-    (λ c. let b = c .before .before in sym (there (read-at b .read .ensures .0) (b .bench .given .1) .za))
+    (λ c. let b = c .before in within _ _ (contents-there (read-at b .read .ensures .0) (b .bench .given .1) .za))
+    (λ c. let b = c .before .before in sym (contents-there (read-at b .read .ensures .0) (b .bench .given .1) .za))
     draw-requires
     (λ c. search needs)
     (λ c. search needs)

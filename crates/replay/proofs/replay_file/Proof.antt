@@ -4,9 +4,9 @@ use native.Mathlib.Nat.{mul-le-mul}
 use native.Mathlib.Omega.{arith}
 use borrow.Author.Needs.{needs}
 use Rattle.capture.proofs.Numbers.{within}
-use Rattle.capture.proofs.Theorems.{refused-roomy}
+use Rattle.capture.proofs.Theorems.{refused-roomy, contents-there}
 use Rattle.replay.specs.Replays.Replays.{refused}
-use Rattle.replay.proofs.Replaying.{there, replay-ran}
+use Rattle.replay.proofs.Replaying.{replay-ran}
 use Rattle.replay.proofs.replay_file.Statement.{statement}
 use Rattle.replay.proofs.replay_file.Tie as tie
 
@@ -17,7 +17,7 @@ read-at c = c .before .before .before .before .before .before .before .before .b
 mul-run-and-write-3 : tie.Need-mul-run-and-write-3
 mul-run-and-write-3 c =
     let b = c .before .before .before .before in
-    let l = there (read-at b .read .ensures .0) (b .bench .given .1) .vb-most in
+    let l = contents-there (read-at b .read .ensures .0) (b .bench .given .1) .vb-most in
     omega (arith, mul-le-mul l l)
 
 returns : tie.Need-returns
@@ -42,17 +42,17 @@ replay-file-spec =
     (λ c κs. search needs)
     (λ c. search needs)
     (λ c. search needs)
-    (λ c. let b = c .before in within _ _ (there (read-at b .read .ensures .0) (b .bench .given .1) .words))
-    (λ c. let b = c .before .before in sym (there (read-at b .read .ensures .0) (b .bench .given .1) .words))
-    (λ c. let b = c .before .before in omega (arith, there (read-at b .read .ensures .0) (b .bench .given .1) .vb-most))
-    (λ c. let b = c .before .before in within _ _ (there (read-at b .read .ensures .0) (b .bench .given .1) .z))
-    (λ c. let b = c .before .before .before in sym (there (read-at b .read .ensures .0) (b .bench .given .1) .z))
-    (λ c. let b = c .before .before .before in omega (arith, there (read-at b .read .ensures .0) (b .bench .given .1) .vb-most))
-    (λ c. let b = c .before .before .before in within _ _ (there (read-at b .read .ensures .0) (b .bench .given .1) .p))
-    (λ c. let b = c .before .before .before .before in sym (there (read-at b .read .ensures .0) (b .bench .given .1) .p))
+    (λ c. let b = c .before in within _ _ (contents-there (read-at b .read .ensures .0) (b .bench .given .1) .words))
+    (λ c. let b = c .before .before in sym (contents-there (read-at b .read .ensures .0) (b .bench .given .1) .words))
+    (λ c. let b = c .before .before in omega (arith, contents-there (read-at b .read .ensures .0) (b .bench .given .1) .vb-most))
+    (λ c. let b = c .before .before in within _ _ (contents-there (read-at b .read .ensures .0) (b .bench .given .1) .z))
+    (λ c. let b = c .before .before .before in sym (contents-there (read-at b .read .ensures .0) (b .bench .given .1) .z))
+    (λ c. let b = c .before .before .before in omega (arith, contents-there (read-at b .read .ensures .0) (b .bench .given .1) .vb-most))
+    (λ c. let b = c .before .before .before in within _ _ (contents-there (read-at b .read .ensures .0) (b .bench .given .1) .p))
+    (λ c. let b = c .before .before .before .before in sym (contents-there (read-at b .read .ensures .0) (b .bench .given .1) .p))
     mul-run-and-write-3
-    (λ c. let b = c .before .before .before .before in within _ _ (there (read-at b .read .ensures .0) (b .bench .given .1) .za))
-    (λ c. let b = c .before .before .before .before .before in sym (there (read-at b .read .ensures .0) (b .bench .given .1) .za))
+    (λ c. let b = c .before .before .before .before in within _ _ (contents-there (read-at b .read .ensures .0) (b .bench .given .1) .za))
+    (λ c. let b = c .before .before .before .before .before in sym (contents-there (read-at b .read .ensures .0) (b .bench .given .1) .za))
     (λ c κs. search needs)
     (λ c. search needs)
     (λ c. search needs)

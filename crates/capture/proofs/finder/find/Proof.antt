@@ -1,6 +1,6 @@
 -- `capture::finder::find` meets its contract. Assumes nothing.
 use borrow.Author.Needs.{needs}
-use Rattle.capture.proofs.Captures.{is-five, is-fewer, no-parts}
+use Rattle.capture.proofs.Captures.{is-five, is-not-five, no-parts}
 use Rattle.capture.proofs.finder.find.Statement.{statement}
 use Rattle.capture.proofs.finder.find.Tie as tie
 
@@ -8,7 +8,7 @@ capture-of-requires : tie.Need-capture-of-requires
 capture-of-requires c κs = (is-five _ _ _ _ _ _ _ (c .before .before .before .five-parts .ensures) (c .before .head .given .1), c .before .before .before .before .before .pre .1)
 
 returns : tie.Need-returns
-returns c = no-parts _ (is-fewer _ _ (c .before .before .five-parts .ensures) (c .enum-told .given .1))
+returns c = no-parts _ (is-not-five _ _ (c .before .before .five-parts .ensures) (c .enum-told .given .1))
 
 pub find-spec : {M : Type 1} → statement M
 find-spec =
