@@ -2,6 +2,8 @@
 // bytes, lowest first. Every feature is on. Blank lines, and lines that begin with //, are left out. A line that is
 // refused is reported on standard error, and so is, at the end, how many words were written and how many lines refused.
 // Input may have 4,194,304 bytes.
+#![tactic(auto)]
+
 ghost use Rattle.std.specs.Prelude.{◌≡◌};
 ghost use Rattle.checks.specs.Tally.{sum};
 ghost use Rattle.assemble.specs.Kernel.{lines, is_space, is_blank, is_comment, assembled, words_after, refused_after, count_over};
@@ -12,7 +14,7 @@ use libc::{STDERR_FILENO, STDOUT_FILENO};
 use reader::Reading;
 
 // What comes of a line.
-#[derive(Drop)]
+#[derive(Clone, Copy)]
 pub enum Assembled {
     LeftOut,
     Word(u32),
@@ -20,7 +22,7 @@ pub enum Assembled {
 }
 
 // How many lines came to words, how many of these were written, and how many lines were refused.
-#[derive(Drop)]
+#[derive(Clone, Copy)]
 pub struct Counts {
     pub words: u64,
     pub written: u64,

@@ -1,5 +1,7 @@
 // Runs the bench examples of document 01, some of the 2-way outer products, and words that miss features, and writes what
 // comes of each: 0 or its refusal, with the sum beside 8, then what it left. The other refusals are shown at the end.
+#![tactic(auto)]
+
 ghost use Rattle.std.specs.Prelude.{◌≡◌, ◌+◌, ◌≤◌, length};
 ghost use Rattle.machine.specs.Lists.{most_words};
 

@@ -1,4 +1,6 @@
 // The functions that C and Rust programs call. Each but birdaghol_order_matters answers value * 65536 + missing * 256 + refusal.
+#![tactic(auto)]
+
 ghost use Rattle.std.specs.Prelude.{◌≡◌, cond, [], ◌∷◌, ◌++◌, ◌≤◌, ltb, length, drop};
 ghost use Rattle.std.proofs.Math.Option.{none, some};
 ghost use Rattle.text.specs.Printing.{room_after};

@@ -1,5 +1,7 @@
 // Calls each exported function and writes its answers, the value, the flags that are missing and the refusal, and what it
 // left in a buffer: which argument is which, and that the boundary's numbers are as documents 01 and 02 have them.
+#![tactic(auto)]
+
 use birdaghol::{
     birdaghol_capture_read, birdaghol_capture_write, birdaghol_decode, birdaghol_describe,
     birdaghol_encode_predicated, birdaghol_encode_quarter, birdaghol_encode_zero,

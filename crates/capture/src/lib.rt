@@ -1,4 +1,6 @@
 // Capture files: a run as bytes. What a run takes, its bench, words, Z, P and ZA, is written to a file and read back.
+#![tactic(auto)]
+
 mod big_endian;
 mod finder;
 mod reader;
@@ -15,28 +17,28 @@ pub use writer::{modes_of, write};
 const VERSION: u8 = 1;
 
 // The length of a file that was written, or why none was.
-#[derive(Drop)]
+#[derive(Clone, Copy)]
 pub enum Written {
     Length(usize),
     Refused(Refusal),
 }
 
 // What a file holds beside the contents of the buffers: the bench, and the number of words; or why it is refused.
-#[derive(Drop)]
+#[derive(Clone, Copy)]
 pub enum Reading {
     Contents { bench: Bench, words: usize },
     Refused(Refusal),
 }
 
 // The number of bytes of a part.
-#[derive(Drop)]
+#[derive(Clone, Copy)]
 enum Part {
     Whole(usize),
     Missing,
 }
 
 // The numbers of bytes of a file's five parts, where there are five and nothing after them.
-#[derive(Drop)]
+#[derive(Clone, Copy)]
 enum Parts {
     Five {
         head: usize,
@@ -49,7 +51,7 @@ enum Parts {
 }
 
 // A capture's bench and number of words, which say where its parts stand.
-#[derive(Drop)]
+#[derive(Clone, Copy)]
 enum Found {
     Capture { bench: Bench, words: usize },
     Nothing,

@@ -1,4 +1,6 @@
 // What the programs share: their input, numbers and fields of a text, a stream of bytes, and counts of compared lines and bytes.
+#![tactic(auto)]
+
 mod counts;
 mod stdin;
 mod stream;
@@ -10,7 +12,7 @@ pub use stream::{generate, next};
 pub use text::{digit_of, field_end, first, hexadecimal_of, wide};
 
 // Standard input: so many bytes, more than there is room for, or an input that can't be read to its end.
-#[derive(Drop)]
+#[derive(Clone, Copy)]
 pub enum Input {
     Bytes(usize),
     TooLong,
@@ -18,7 +20,7 @@ pub enum Input {
 }
 
 // How many lines have something to compare, at how many of these it agrees, and how many others are no comments.
-#[derive(Drop)]
+#[derive(Clone, Copy)]
 pub struct Tally {
     pub lines: u64,
     pub agreed: u64,
@@ -26,7 +28,7 @@ pub struct Tally {
 }
 
 // What comes of a line.
-#[derive(Drop)]
+#[derive(Clone, Copy)]
 pub enum Outcome {
     Agreed,
     Disagreed,
@@ -34,7 +36,7 @@ pub enum Outcome {
     Comment,
 }
 
-#[derive(Drop)]
+#[derive(Clone, Copy)]
 pub enum Number {
     Value(u32),
     Malformed,
@@ -42,7 +44,7 @@ pub enum Number {
 
 // How a byte of the stream is used: as it is, or as one of those at which signed and unsigned reading part, or as 00 or
 // FF, with which sums often carry out of an element.
-#[derive(Drop)]
+#[derive(Clone, Copy)]
 pub enum Fill {
     Any,
     Edges,

@@ -1,4 +1,6 @@
 // The listing of a file of words, piece by piece: a line for each little-endian word, and one for an odd end.
+#![tactic(auto)]
+
 mod input;
 mod line;
 
@@ -12,7 +14,7 @@ pub use line::{END_LINE, LONGEST_LINE};
 use text::Printed;
 
 // The bytes of a word that have come so far.
-#[derive(Drop)]
+#[derive(Clone, Copy)]
 pub enum Begun {
     Nothing,
     One(u8),
@@ -21,14 +23,14 @@ pub enum Begun {
 }
 
 // Where a listing stands between two pieces: the address of the next word, modulo 2^32, and what has come of it.
-#[derive(Drop)]
+#[derive(Clone, Copy)]
 pub struct Place {
     pub address: u32,
     pub begun: Begun,
 }
 
 // Where it stands behind a piece, how many bytes of the piece were taken, and how many were written.
-#[derive(Drop)]
+#[derive(Clone, Copy)]
 pub struct Advance {
     pub place: Place,
     pub taken: usize,

@@ -1,6 +1,8 @@
 // Executes lists of words, with every feature and both modes on, and compares ZA afterwards with a checksum. Each word is
 // executed singly: a run would refuse lists that add to what ZA held. The lists are on standard input; the head of the file
 // stdin says what a line holds and how Z, P and ZA are made from its seed.
+#![tactic(auto)]
+
 ghost use Rattle.std.specs.Prelude.{◌≤◌, length};
 
 use checks::{Fill, Number, Outcome, Tally};

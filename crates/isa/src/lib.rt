@@ -1,4 +1,6 @@
 // Which words are instructions, and which instruction each is: Arm's encoding table, both ways.
+#![tactic(auto)]
+
 mod decoder;
 mod encoder;
 mod numbers;
@@ -10,17 +12,17 @@ pub use numbers::{missing_in, number};
 pub use sizes::{element_bytes, products, source_bytes};
 
 // Numbers of tiles, vectors and predicates: kinds that can't stand for one another.
-#[derive(Drop)]
+#[derive(Clone, Copy)]
 pub struct Tile(pub u32);
 
-#[derive(Drop)]
+#[derive(Clone, Copy)]
 pub struct Vector(pub u32);
 
-#[derive(Drop)]
+#[derive(Clone, Copy)]
 pub struct Predicate(pub u32);
 
 // A quarter-tile source: one register, or a pair of neighbours given by its first.
-#[derive(Drop)]
+#[derive(Clone, Copy)]
 pub enum Source {
     One(Vector),
     Pair(Vector),
@@ -28,7 +30,7 @@ pub enum Source {
 
 // What an outer product does: on a 64-bit tile (wide) or a 32-bit one, by two products an element (two_way) or four, with
 // its first (u0) and its second (u1) source read as unsigned, added or subtracted.
-#[derive(Drop)]
+#[derive(Clone, Copy)]
 pub struct Operation {
     pub wide: bool,
     pub two_way: bool,
@@ -38,7 +40,7 @@ pub struct Operation {
 }
 
 // The description of a word.
-#[derive(Drop)]
+#[derive(Clone, Copy)]
 pub enum Instruction {
     Predicated {
         op: Operation,
@@ -58,7 +60,7 @@ pub enum Instruction {
 }
 
 // The shapes of the table's outer products: bytes or halfwords on a 32-bit tile, halfwords on a 64-bit one.
-#[derive(Drop)]
+#[derive(Clone, Copy)]
 pub enum Shape {
     Bytes32,
     Halves64,
@@ -66,7 +68,7 @@ pub enum Shape {
 }
 
 // A line of the table, or none.
-#[derive(Drop)]
+#[derive(Clone, Copy)]
 pub enum Line {
     Predicated32,
     Predicated64,
@@ -80,7 +82,7 @@ pub enum Line {
 
 // Why input is refused; `number` gives each its number, and each function says which it tests, and in which order. A word
 // that needs a feature that is off is refused with the sum of the flags that it misses.
-#[derive(Drop)]
+#[derive(Clone, Copy)]
 pub enum Refusal {
     Flags,
     VectorLength,
@@ -101,19 +103,19 @@ pub enum Refusal {
 }
 
 // check's answer: nothing is refused, or why something is.
-#[derive(Drop)]
+#[derive(Clone, Copy)]
 pub enum Checked {
     Passed,
     Refused(Refusal),
 }
 
-#[derive(Drop)]
+#[derive(Clone, Copy)]
 pub enum Decoded {
     Accepted(Instruction),
     Refused(Refusal),
 }
 
-#[derive(Drop)]
+#[derive(Clone, Copy)]
 pub enum Encoded {
     Word(u32),
     Refused(Refusal),

@@ -1,6 +1,8 @@
 // Lists a file of words: little-endian words on standard input, of any length, and a line for each on standard output, with its
 // address, the word and its text, or - and the refusal number; an odd end of one to three bytes has a last line, `end` and how many
 // they are. Every feature is on. What is read is listed and written at once. A read or a write that fails is told on standard error.
+#![tactic(auto)]
+
 ghost use Rattle.std.specs.Prelude.{◌≡◌, ◌++◌, ◌-◌, ◌^◌, ◌≤◌, length, drop};
 ghost use Rattle.disassembly.specs.Pieces.{lines_for, end_for, end_room, listed_all};
 ghost use Rattle.disassembly.specs.Claims.{room_for};
@@ -14,7 +16,7 @@ use text::Printed;
 const ROOM: usize = 1024 * disassembly::LONGEST_LINE;
 
 // What comes of a read: the listing goes on from a place, or it is over.
-#[derive(Drop)]
+#[derive(Clone, Copy)]
 pub enum Step {
     On(Place),
     Over,

@@ -2,6 +2,8 @@
 // made, the sum of all bytes, and how many lines came back as their words. What it must write comes from tools/listing,
 // which makes the texts from document 01's table, C-14's two lines and the rules of text alone; LLVM 22 disassembles each of
 // the 7,368,960 words to the same text.
+#![tactic(auto)]
+
 ghost use Rattle.std.specs.Prelude.{◌+◌, ◌≤◌};
 
 use checks::{one_if, part, plus};
@@ -23,7 +25,7 @@ const ZERO: u32 = 0xc008_0000;
 
 const ZERO_WORDS: u32 = 0x100;
 
-#[derive(Drop)]
+#[derive(Clone, Copy)]
 pub struct Listing {
     pub lines: u64,
     pub bytes: u64,

@@ -1,4 +1,6 @@
 // Executes instruction words on a bench: one word, a run of a list, a list word by word.
+#![tactic(auto)]
+
 mod admission;
 mod clearing;
 mod executor;
@@ -11,7 +13,7 @@ pub use lists::{MOST_WORDS, check_run, play, run};
 pub use reversal::exchange;
 
 // The bench: the feature flags, streaming mode (PSTATE.SM) and ZA (PSTATE.ZA) on or off, and the vector length in bytes.
-#[derive(Drop)]
+#[derive(Clone, Copy)]
 pub struct Bench {
     pub flags: u32,
     pub sm: bool,
@@ -20,21 +22,21 @@ pub struct Bench {
 }
 
 // The modes that an instruction needs on.
-#[derive(Drop)]
+#[derive(Clone, Copy)]
 pub struct Modes {
     pub streaming: bool,
     pub za: bool,
 }
 
 // What comes of a word, or of a run after its last word.
-#[derive(Drop)]
+#[derive(Clone, Copy)]
 pub enum Outcome {
     Done,
     Refused(isa::Refusal),
 }
 
 // A run: how many words were executed, and how it ended.
-#[derive(Drop)]
+#[derive(Clone, Copy)]
 pub struct Ended {
     pub count: usize,
     pub outcome: Outcome,

@@ -1,4 +1,6 @@
 // Names of ZA's tiles, and for each ZERO mask the shortest list of them.
+#![tactic(auto)]
+
 mod lists;
 
 ghost use Rattle.std.specs.Prelude.{◌≡◌};
@@ -9,7 +11,7 @@ use isa::Tile;
 pub use lists::list_of;
 
 // A tile by the bytes of its elements and its number: 2 is .h, 4 is .s, 8 is .d, and 1 is za, all of it.
-#[derive(Drop)]
+#[derive(Clone, Copy)]
 pub struct TileName {
     pub bytes: u32,
     pub tile: Tile,

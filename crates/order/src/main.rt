@@ -1,6 +1,8 @@
 // Names the pairs of outer products in a list whose order matters: words on standard input, as little-endian bytes. Where there is
 // none, any order gives the same ZA, executed one at a time, as long as no word moves past a ZERO or a word that is not listed;
 // these are named first, as fixed. Every feature is on. A list may have 65,536 words, as for a run.
+#![tactic(auto)]
+
 ghost use Rattle.std.specs.Prelude.{◌≡◌, ◌+◌, ◌*◌, ◌≤◌, length};
 ghost use Rattle.std.proofs.Math.Option.{some};
 ghost use Rattle.isa.specs.Table.{all_flags};
@@ -14,7 +16,7 @@ use libc::{STDERR_FILENO, STDOUT_FILENO};
 use text::Printed;
 
 // What is said of a list.
-#[derive(Drop)]
+#[derive(Clone, Copy)]
 pub enum Verdict {
     NotWords,
     TooLong,

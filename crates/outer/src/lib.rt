@@ -1,4 +1,6 @@
 // Outer products on tiles of ZA, without instruction words: what Arm's pseudocode adds to each element.
+#![tactic(auto)]
+
 mod clear;
 mod plain;
 mod product;
@@ -11,7 +13,7 @@ pub use plain::update_plainly;
 pub use walk::update;
 
 // Which elements of a source count: all of them, or those that its governing predicate has.
-#[derive(Drop)]
+#[derive(Clone, Copy)]
 pub enum Predication {
     Unpredicated,
     By(Predicate),
@@ -19,7 +21,7 @@ pub enum Predication {
 
 // A source: its register for the first and the second half of the tile's columns or rows, which of its elements count, and
 // how they are read.
-#[derive(Drop)]
+#[derive(Clone, Copy)]
 pub struct Operand {
     pub low: Vector,
     pub high: Vector,
@@ -29,7 +31,7 @@ pub struct Operand {
 
 // An outer product: the bytes of a tile element and how many products come to it, its tile and sources, and whether it
 // subtracts.
-#[derive(Drop)]
+#[derive(Clone, Copy)]
 pub struct OuterProduct {
     pub element: usize,
     pub products: usize,

@@ -1,4 +1,6 @@
 // Which pairs of outer products must keep their order.
+#![tactic(auto)]
+
 ghost use Rattle.std.specs.Prelude.{◌≡◌, true, ◌<◌};
 ghost use Rattle.std.proofs.Math.Option.{some};
 ghost use Rattle.isa.specs.Table.{in_range, element_bytes};

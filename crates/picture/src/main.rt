@@ -1,5 +1,7 @@
 // Writes ZA of a capture as a plain PGM image, which any viewer shows: VB by VB grey pixels, 0 black and 255 white, row by row. The
 // capture comes on standard input, the image goes to standard output. A file that is refused is told on standard error.
+#![tactic(auto)]
+
 ghost use Rattle.std.specs.Prelude.{◌≡◌, ◌++◌, ◌+◌, ◌*◌, ◌≤◌, ◌<◌, length, drop};
 ghost use Rattle.std.proofs.lemmas.List.Edits.{sets};
 ghost use Rattle.capture.specs.Outcomes.{buffers, Roomy};
@@ -18,7 +20,7 @@ const PIXEL: usize = 4;
 const LONGEST: usize = 262159;
 
 // What comes of a file: an image of so many bytes stands in a room, or it is refused.
-#[derive(Drop)]
+#[derive(Clone, Copy)]
 pub enum Shown {
     Drawn(usize),
     Refused(Refusal),

@@ -1,6 +1,8 @@
 // Lists standard input whole, then cut into pieces of several sizes and into rooms of several sizes, and writes of each listing how
 // many calls it took, how many lines and bytes it has, and a checksum of its bytes; then the listings of the first 0 to 4 bytes.
 // The input is the words of the program `words` and an odd end; what must be written comes from tools/pieces.
+#![tactic(auto)]
+
 ghost use Rattle.std.specs.Prelude.{◌≡◌, ◌≤◌, length};
 
 use checks::{Input, part, plus};
@@ -15,7 +17,7 @@ const ROOM: usize = 10001 * disassembly::LONGEST_LINE;
 const MODULUS: u64 = 4294967291;
 
 // How many calls a listing took, its lines and bytes, and a checksum that changes where two bytes are exchanged.
-#[derive(Drop)]
+#[derive(Clone, Copy)]
 pub struct Sum {
     pub calls: u64,
     pub lines: u64,
@@ -24,7 +26,7 @@ pub struct Sum {
 }
 
 // Where a listing stands, what it has come to, and how much of the last piece was taken.
-#[derive(Drop)]
+#[derive(Clone, Copy)]
 pub struct Progress {
     pub place: Place,
     pub sum: Sum,

@@ -1,4 +1,6 @@
 // The word of a line of text: print, undone.
+#![tactic(auto)]
+
 mod guess;
 mod line;
 
@@ -6,7 +8,7 @@ use isa::Refusal;
 pub use line::read;
 
 // The word of a line, or why there is none.
-#[derive(Drop)]
+#[derive(Clone, Copy)]
 pub enum Reading {
     Word(u32),
     Refused(Refusal),
@@ -15,7 +17,7 @@ pub enum Reading {
 // What stands in an outer product's line, as far as it was read: whether a 64-bit tile, halfword elements or a predicate was
 // named; the numbers of the last five operands, in their order, so that three of them stand from n2 on; and whether the
 // last two are pairs.
-#[derive(Drop)]
+#[derive(Clone, Copy)]
 pub(crate) struct Scan {
     wide: bool,
     half: bool,

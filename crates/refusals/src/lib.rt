@@ -1,4 +1,6 @@
 // What the programs say of refusals: each as a person reads it, and how many words miss which features.
+#![tactic(auto)]
+
 mod counts;
 mod meaning;
 
@@ -6,7 +8,7 @@ pub use counts::{no_sums, report_sums, with_sum};
 pub use meaning::write_refusal;
 
 // How many words miss which features, by the sum of their flags; no word of the table misses another sum than these five.
-#[derive(Drop)]
+#[derive(Clone, Copy)]
 pub struct Sums {
     pub sme: u64,
     pub i16i64: u64,

@@ -1,6 +1,8 @@
 // Replays a capture: the file on standard input is read and run, and written to standard output with ZA as the run left it. A
 // report goes to standard error: the bench, how many words were executed, where the run stopped and why, and which bytes of ZA
 // changed. A file that is refused is told there, and nothing is written.
+#![tactic(auto)]
+
 ghost use Rattle.std.specs.Prelude.{◌≡◌, ◌*◌, ◌-◌, ◌≤◌, ◌<◌, length, drop};
 ghost use Rattle.machine.specs.Machine.{on};
 ghost use Rattle.machine.specs.Lists.{run_of, run_left};
@@ -17,7 +19,7 @@ use machine::{Bench, Ended, Outcome};
 use text::Printed;
 
 // What comes of a file: it was run, so many of its words executed, and stands in a room with so many bytes; or it is refused.
-#[derive(Drop)]
+#[derive(Clone, Copy)]
 pub enum Replayed {
     Ran {
         bench: Bench,

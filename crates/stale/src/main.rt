@@ -1,5 +1,7 @@
 // The accident as a check. A kernel is run on sums that an old run left, and on zeros. Where its ZERO is missing, or clears one
 // tile too few, the run stops at the word that would have added to old sums; with all of ZA cleared first, it ends the same.
+#![tactic(auto)]
+
 use checks::{Fill, part};
 use libc::STDOUT_FILENO;
 use machine::{Bench, Outcome};

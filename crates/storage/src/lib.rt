@@ -1,4 +1,6 @@
 // Legal vector lengths; little-endian numbers and single bits in lent bytes.
+#![tactic(auto)]
+
 ghost use Rattle.std.specs.Prelude.{◌≡◌, ◌+◌, ◌*◌, ◌/◌, ◌%◌, ◌≤◌, ◌<◌, length};
 ghost use Rattle.std.proofs.lemmas.List.Edits.{sets};
 ghost use Rattle.storage.specs.Bytes.{at, word, bytes_of, bit_at};

@@ -1,6 +1,8 @@
 // Decodes all 2^32 words, with every feature on, with document 01's and with none: how many each line of the table accepts,
 // how many descriptions encode to another word than the one that they came from, how many words `check` answers otherwise,
 // and how many miss which features.
+#![tactic(auto)]
+
 ghost use Rattle.std.specs.Prelude.{◌<◌};
 
 use checks::{count, one_if, plus};
@@ -17,7 +19,7 @@ const NO_FEATURE: u32 = 0;
 // The lines of the table are numbered from 0; a refused word has none.
 const NO_LINE: u32 = 7;
 
-#[derive(Drop)]
+#[derive(Clone, Copy)]
 pub struct Tally {
     pub predicated32: u64,
     pub predicated64: u64,

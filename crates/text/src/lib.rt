@@ -1,4 +1,6 @@
 // The text of a word, as documents 01 and 02 spell it.
+#![tactic(auto)]
+
 mod line;
 
 ghost use Rattle.std.specs.Prelude.{◌≡◌, true, ◌++◌, ◌≤◌, length, take, drop};
@@ -9,7 +11,7 @@ ghost use Rattle.text.specs.Put.{printed_in, filled_with};
 use isa::{Decoded, Instruction, Refusal};
 
 // The length of a text, or why there is none.
-#[derive(Drop)]
+#[derive(Clone, Copy)]
 pub enum Printed {
     Length(usize),
     Refused(Refusal),

@@ -1,5 +1,7 @@
 // Plays lists of outer products at every vector length, then the reversed lists with add and subtract exchanged, and
 // counts the bytes of ZA that differ from the start. Refused words stand between the others.
+#![tactic(auto)]
+
 ghost use Rattle.std.specs.Prelude.{◌≡◌, ◌≤◌, length};
 
 use checks::{Fill, differing, generate, next, one_if, part, plus};
@@ -15,7 +17,7 @@ const LIST_WORDS: usize = 40;
 
 // The lists and their words, how many words decode accepts, how many lists changed ZA on the way forward, and how many
 // bytes of ZA differ after the way back.
-#[derive(Drop)]
+#[derive(Clone, Copy)]
 pub struct Tally {
     pub lists: u64,
     pub words: u64,

@@ -7,7 +7,7 @@ use outer::{Operand, OuterProduct, Predication};
 
 // An outer product on a tile. The predicated forms read registers 1 and 2 under predicates 1 and 2, the quarter-tile forms
 // registers 2 and 18 or the pairs that start there. The 2-way forms are on 32-bit tiles only.
-#[derive(Drop)]
+#[derive(Clone, Copy)]
 pub struct Case {
     pub vb: usize,
     pub wide: bool,
@@ -111,7 +111,7 @@ fn second_of(c: Case) -> Operand
 }
 
 // The bytes of a tile element, and how many products come to it.
-#[derive(Drop)]
+#[derive(Clone, Copy)]
 pub struct Shape(pub usize, pub usize);
 
 fn shape_of(c: Case) -> Shape
@@ -207,7 +207,7 @@ pub(crate) fn set_byte(s: &mut [u8], i: usize, v: u8) {
 }
 
 // What the bytes of a row are set to: each even and each odd byte, or 0, 1, 2, .. in its bytes or in its halfwords.
-#[derive(Drop)]
+#[derive(Clone, Copy)]
 pub enum Pattern {
     Bytes(u8, u8),
     Ramp,

@@ -3,7 +3,7 @@ use crate::bench::Case;
 use libc::STDOUT_FILENO;
 
 // How many figures there were, and how many were as expected.
-#[derive(Drop)]
+#[derive(Clone, Copy)]
 pub struct Tally {
     pub figures: u64,
     pub agreed: u64,

@@ -72,7 +72,7 @@ fn activity64(t: Tally, c: Case, row1: usize) -> Tally {
 }
 
 // What comes to an element where all products count, and under 0453 in row or column 0 and in row or column 1.
-#[derive(Drop)]
+#[derive(Clone, Copy)]
 pub struct Sums(pub u64, pub u64, pub u64);
 
 // Bit 2·e governs element e: 5555 is all, AAAA none. Of 0453 bits 0, 4, 6 and 10 are elements 0, 2, 3 and 5, and bit 1 is

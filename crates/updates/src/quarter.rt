@@ -4,11 +4,11 @@ use crate::figures::Tally;
 use crate::{bench, figures, sources};
 
 // Where the upper right, the lower left and the lower right quarter of tile 0 start in ZA.
-#[derive(Drop)]
+#[derive(Clone, Copy)]
 pub struct Corners(pub usize, pub usize, pub usize);
 
 // An element of the upper left, the upper right, the lower left and the lower right quarter.
-#[derive(Drop)]
+#[derive(Clone, Copy)]
 pub struct Quarters(pub u64, pub u64, pub u64, pub u64);
 
 pub(crate) fn all(t: Tally) -> Tally {

@@ -9,7 +9,7 @@ use outer::{Operand, OuterProduct, Predication};
 
 // Updates on vectors of vb bytes, with so many products to a tile element of `element` bytes, of the quarter-tile family or of
 // the predicated one.
-#[derive(Drop)]
+#[derive(Clone, Copy)]
 pub struct Kind {
     pub vb: usize,
     pub element: usize,

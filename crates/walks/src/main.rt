@@ -1,5 +1,7 @@
 // Updates the same bytes by `outer::update` and by the plain walk, `outer::update_plainly`, and counts the bytes of ZA in
 // which the two differ, on the shortest and the longest vectors. The walks' times are written to standard error.
+#![tactic(auto)]
+
 ghost use Rattle.std.specs.Prelude.{◌≡◌, true, length};
 ghost use Rattle.storage.specs.Sizes.{legal};
 ghost use Rattle.walks.specs.Room.{GoodKind, Room, Updatable};

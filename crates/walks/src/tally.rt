@@ -3,7 +3,7 @@ use checks::{differing, part, plus};
 use libc::STDOUT_FILENO;
 
 // How many updates were compared, how many bytes of ZA they changed, and in how many the two walks differ.
-#[derive(Drop)]
+#[derive(Clone, Copy)]
 pub struct Tally {
     pub updates: u64,
     pub changed: u64,

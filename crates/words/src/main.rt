@@ -1,6 +1,8 @@
 // Compares print and read, with every feature on, with a list on standard input. A line of the list is a word in eight
 // hex digits, a space, and its text, or - if print must refuse it as unlisted; a line that starts with # is a comment.
 // Then tells how many of its words miss which features where none is on.
+#![tactic(auto)]
+
 use checks::{Number, Outcome, Tally};
 use isa::Refusal;
 use libc::{STDIN_FILENO, STDOUT_FILENO};
@@ -23,7 +25,7 @@ const TEXT_ROOM: usize = 48;
 const TEXT_AT: usize = 9;
 
 // What comes of a list, and what its words miss where no feature is on.
-#[derive(Drop)]
+#[derive(Clone, Copy)]
 pub struct Compared {
     tally: Tally,
     sums: Sums,
