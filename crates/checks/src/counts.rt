@@ -2,8 +2,7 @@
 ghost use Rattle.std.specs.Prelude.{◌≡◌, length, if◌then◌else◌};
 ghost use Rattle.checks.specs.Tally.{sum, with_line, has_at, differences};
 
-use crate::{Outcome, Tally};
-use libc::STDOUT_FILENO;
+use crate::{Outcome, STDOUT_FILENO, Tally};
 
 // The tally with one line more.
 pub fn counted(t: Tally, outcome: Outcome) -> Tally

@@ -11,6 +11,11 @@ pub use stdin::{INPUT_ROOM, input_room, read_input};
 pub use stream::{generate, next};
 pub use text::{digit_of, field_end, first, hexadecimal_of, wide};
 
+// Where the programs write, by number.
+pub const STDOUT_FILENO: i32 = 1;
+
+pub const STDERR_FILENO: i32 = 2;
+
 // Standard input: so many bytes, more than there is room for, or an input that can't be read to its end.
 #[derive(Clone, Copy)]
 pub enum Input {

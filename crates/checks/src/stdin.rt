@@ -3,7 +3,7 @@ ghost use Rattle.std.specs.Prelude.{◌≡◌, length, replicate};
 ghost use Rattle.checks.specs.Stdin.{input_room, Fits};
 
 use crate::Input;
-use libc::STDIN_FILENO;
+use std::io::Read;
 
 // The bytes that a program has for its input: seven of the longest lists, a word being nine bytes of text.
 pub const INPUT_ROOM: usize = 4194304;
@@ -17,24 +17,23 @@ pub fn input_room() -> [u8; INPUT_ROOM]
 }
 
 // Reads all of standard input to the start of room. A read that fails is no end: what came before it is not the input.
-pub fn read_input(room: &mut [u8]) -> Input
+pub fn read_input(rt: &HostRuntime, room: &mut [u8]) -> Input
     ensures { Fits result (length room.old) }
 {
+    let mut input = rt.stdin();
     let mut chunk = io::large_buffer();
     let mut n = 0;
     while n <= room.len() {
-        let got = libc::read(STDIN_FILENO, &mut chunk);
-        if got < 0 {
+        let Ok(more) = input.read(&mut chunk) else {
             return Input::Unreadable;
-        }
-        let more = io::count(got, &chunk);
+        };
         if more == 0 {
             return Input::Bytes(n);
         }
         if room.len() - n < more {
             return Input::TooLong;
         }
-        bytes::copy(&chunk[..more], &mut room[n..]);
+        room[n..n + more].copy_from_slice(&chunk[..more]);
         n += more;
     }
     Input::TooLong

@@ -29,6 +29,7 @@ flag-pos MOP4 = omega arith
 flag-pos SME2 = omega arith
 
 pub lacking-none : (flags : ℕ) (fs : List Feature) → lacking flags fs ≡ 0 → AllOn flags fs
+lacking-none flags [] p g m = elim m [ ]
 lacking-none flags (f ∷ fs) p g m = go (on flags f) refl p g m (lacking-none flags fs)
   where
     go : (b : Bool) → on flags f ≡ b → cond b 0 (flag f) + lacking flags fs ≡ 0 → (g : Feature) → Memᴰ g (f ∷ fs)

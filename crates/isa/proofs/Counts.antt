@@ -45,6 +45,7 @@ count_none (suc n) = rw (count_none n)
 -- one number below n is v
 count_one : (n v : ℕ) → v < n → count_below n (λ w. eqb w v) ≡ 1
 unfolding count_below
+count_one zero v h = elim h [ ]
 count_one (suc n) v h = go (ℕ_discrete n v) (count_one n v)
   where
     go : Dec (n ≡ v) → (v < n → count_below n (λ w. eqb w v) ≡ 1) → count_below n (λ w. eqb w v) + bit (eqb n v) ≡ 1
@@ -171,6 +172,7 @@ module _ (flags : ℕ) where
 
 -- an accepted word is of some line
 listed_of : (es : List Entry) {e : Entry} (w : ℕ) → Memᴰ e es → matches e.row w ≡ true → is_of es w ≡ true
+listed_of [] w m h = elim m [ ]
 listed_of (x ∷ es) w (Memᴰ.head p) h = rw (← p, h)
 listed_of (x ∷ es) w (Memᴰ.tail m) h = go (matches x.row w) (listed_of es w m h)
   where

@@ -30,6 +30,7 @@ checked test [] = []
 checked test (e ∷ es) = test e ∷ checked test es
 
 pub at-line : (test : Entry → Bool) (es : List Entry) {e : Entry} → All (checked test es) → Memᴰ e es → test e ≡ true
+at-line test [] t m = elim m [ ]
 at-line test (x ∷ es) t (Memᴰ.head p) = rw p t.0
 at-line test (x ∷ es) t (Memᴰ.tail m) = at-line test es t.1 m
 
@@ -244,6 +245,7 @@ Each P [] = Unit {0}
 Each P (e ∷ es) = P e × Each P es
 
 each_line : (P : Entry → Type 0) (es : List Entry) {e : Entry} → Each P es → Memᴰ e es → P e
+each_line P [] t m = elim m [ ]
 each_line P (x ∷ es) t (Memᴰ.head p) = rw p t.0
 each_line P (x ∷ es) t (Memᴰ.tail m) = each_line P es t.1 m
 

@@ -38,6 +38,7 @@ others e x es w a m h =
 
 -- a line that the word matches is the one that is found
 found : (es : List Entry) (e : Entry) (w : ℕ) → RowsApart es → Memᴰ e es → matches e.row w ≡ true → lookup es w ≡ some e
+found [] e w a m h = elim m [ ]
 found (x ∷ es) e w a (Memᴰ.head p) h = rw (← p, h)
 found (x ∷ es) e w a (Memᴰ.tail m) h = go (matches x.row w) refl (found es e w a.1 m h)
   where

@@ -41,6 +41,7 @@ among_member f (g ∷ fs) h = go (eqb (flag f) (flag g)) refl h (among_member f 
     go false e q rest = Memᴰ.tail (rest q)
 
 member_among : (f : Feature) (fs : List Feature) → Memᴰ f fs → among f fs ≡ true
+member_among f [] m = elim m [ ]
 member_among f (g ∷ fs) (Memᴰ.head p) = rw (p, eq-eqb (flag g) (flag g) refl)
 member_among f (g ∷ fs) (Memᴰ.tail m) = go (eqb (flag f) (flag g)) (member_among f fs m)
   where

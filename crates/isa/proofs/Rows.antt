@@ -168,7 +168,7 @@ top h s k p q = rw (high h s q) (mod-eq_of_lt p)
 
 pub fields_back : (r : Row) (f : Fields) → Sound r → Fit r f → Agree r (field_of r (word_of r f)) f
 fields_back [] f s t = tt
-fields_back (fixed k v ∷ r) f s t = rw (fields_below r v (word_lt r f s.1 t)) (fields_back r f s.1 t)
+fields_back (fixed k v ∷ r) f s t = subst (λ (g : Fields). Agree r g f) (sym (fields_below r v (word_lt r f s.1 t))) (fields_back r f s.1 t)
 fields_back (field m k ∷ r) f s t =
     let q = word_lt r f s.1 t.1 in (
       rw (same_refl m) (top (f m) (size r) k t.0 q),

@@ -15,8 +15,8 @@ returns c =
     let s = a.s.now in
     let low = bytes_of 4 (a.v % 0x100000000) in
     let high = bytes_of 4 (a.v / 0x100000000) in
-    c.before.before.store-u322.ensures
-    ∙ ap (λ (l : List ℕ). sets l (a.i + 4) high) c.before.before.before.before.before.before.store-u32.ensures
+    c.before.before.store_u32-2.ensures
+    ∙ ap (λ (l : List ℕ). sets l (a.i + 4) high) c.before.before.before.before.before.before.store_u32.ensures
     ∙ ap (λ (n : ℕ). sets (sets s a.i low) (a.i + n) high) (sym (length_bytes_of 4 (a.v % 0x100000000)))
     ∙ sym (sets_append low high s a.i)
     ∙ ap (sets s a.i) (sym (bytes_append 4 4 a.v))

@@ -27,7 +27,7 @@ line_checked (some e) w = refl
 returns : tie.Need-returns
 returns c =
     answers _ _
-    (sym (ap decoded_refusal (decode_flags _ _ (ltb-true _ _ (not-false _ (sym c.before.flags-legal.ensures ∙ not-true _ c.if1.true))))))
+    (sym (ap decoded_refusal (decode_flags _ _ (ltb-true _ _ (not-false _ (sym c.before.flags_legal.ensures ∙ not-true _ c.if1.true))))))
 
 returns-2 : tie.Need-returns-2
 returns-2 c =

@@ -10,4 +10,4 @@ tile_of_spec =
     (tie.spec
     (λ c κs. tt)
     (λ c. omega (arith, element-between c.before.args.op))
-    (λ c. rw c.element-bytes.ensures))
+    (λ c. rw c.element_bytes.ensures))

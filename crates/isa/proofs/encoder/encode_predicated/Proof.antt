@@ -5,8 +5,8 @@ use Rattle.isa.proofs.Answers.{encode_in_range, encode_out_of_range}
 use Rattle.isa.proofs.encoder.encode_predicated.Statement.{statement}
 use Rattle.isa.proofs.encoder.encode_predicated.Tie as tie
 
-predicated-word-requires : tie.Need-predicated-word-requires
-predicated-word-requires c κs = sym c.before.predicated-in-range.ensures ∙ c.if1.true
+predicated-word-requires : tie.Need-predicated_word-requires
+predicated-word-requires c κs = sym c.before.predicated_in_range.ensures ∙ c.if1.true
 
 returns : tie.Need-returns
 returns c = ap Word c.predicated-word.ensures ∙ sym (encode_in_range _ (sym c.before.before.predicated-in-range.ensures ∙ c.before.if1.true))

@@ -5,8 +5,8 @@ use Rattle.isa.proofs.Answers.{encode_in_range, encode_out_of_range}
 use Rattle.isa.proofs.encoder.encode_quarter.Statement.{statement}
 use Rattle.isa.proofs.encoder.encode_quarter.Tie as tie
 
-quarter-word-requires : tie.Need-quarter-word-requires
-quarter-word-requires c κs = sym c.before.quarter-in-range.ensures ∙ c.if1.true
+quarter-word-requires : tie.Need-quarter_word-requires
+quarter-word-requires c κs = sym c.before.quarter_in_range.ensures ∙ c.if1.true
 
 returns : tie.Need-returns
 returns c = ap Word c.quarter-word.ensures ∙ sym (encode_in_range _ (sym c.before.before.quarter-in-range.ensures ∙ c.before.if1.true))

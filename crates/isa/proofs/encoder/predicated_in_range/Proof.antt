@@ -11,7 +11,7 @@ returns c =
     let e = c.before.before.before.before.before in
     let f = e.before in
     let a = f.before.args in
-    rw (f.is-formed.ensures, e.element-bytes.ensures) (joined-every (ranges (Predicated a.op a.tile a.pn a.pm a.zn a.zm)))
+    rw (f.is_formed.ensures, e.element_bytes.ensures) (joined-every (ranges (Predicated a.op a.tile a.pn a.pm a.zn a.zm)))
 
 pub predicated_in_range_spec : {M : Type 1} → statement M
 predicated_in_range_spec = tie.close (tie.spec (λ c κs. tt) (λ c κs. tt) returns)

@@ -18,7 +18,7 @@ fit : (c : tie.Start) → Fit predicated64 (fields_from (described c))
 fit c = let a = c.args in predicated_range a.op a.tile a.pn a.pm a.zn a.zm c.requires
 
 -- the sum is the row's word
-sum_is : (c : tie.After-by-shape) → c.by_shape.result + (c.before.before.operation-bits.result + c.before.predicated-bits.result) ≡ word_for (described c.before.before.before)
+sum_is : (c : tie.After-by_shape) → c.by_shape.result + (c.before.before.operation_bits.result + c.before.predicated_bits.result) ≡ word_for (described c.before.before.before)
 sum_is c =
     let i = described c.before.before.before in
     let op = c.before.before.before.args.op in

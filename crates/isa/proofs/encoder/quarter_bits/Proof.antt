@@ -8,7 +8,7 @@ use Rattle.isa.proofs.encoder.quarter_bits.Statement.{statement}
 use Rattle.isa.proofs.encoder.quarter_bits.Tie as tie
 
 returns : tie.Need-returns
-returns c = omega (arith, ap bit c.before.before.before.is-pair.ensures, ap bit c.before.is-pair2.ensures)
+returns c = omega (arith, ap bit c.before.before.before.is_pair.ensures, ap bit c.before.is_pair-2.ensures)
 
 pub quarter_bits_spec : {M : Type 1} → statement M
 quarter_bits_spec =
@@ -16,15 +16,15 @@ quarter_bits_spec =
     (tie.spec
     (λ c κs. tt)
     (λ c. search rules)
-    (λ c. omega (arith, bit_lt c.is-pair.result))
+    (λ c. omega (arith, bit_lt c.is_pair.result))
     (λ c κs. tt)
     (λ c. search rules)
     (λ c. search rules)
-    (λ c. omega (arith, bit_lt c.before.is-pair.result))
+    (λ c. omega (arith, bit_lt c.before.is_pair.result))
     (λ c κs. tt)
     (λ c. search rules)
-    (λ c. omega (arith, bit_lt c.is-pair2.result))
-    (λ c. omega (arith, bit_lt c.before.before.is-pair.result, bit_lt c.is-pair2.result))
+    (λ c. omega (arith, bit_lt c.is_pair-2.result))
+    (λ c. omega (arith, bit_lt c.before.before.is-pair.result, bit_lt c.is_pair-2.result))
     (λ c κs. tt)
     (λ c. search rules)
     (λ c. omega (arith, bit_lt c.before.before.before.is-pair.result, bit_lt c.before.is-pair2.result))

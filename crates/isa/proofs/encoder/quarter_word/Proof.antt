@@ -20,7 +20,7 @@ fit : (c : tie.Start)
 fit c = let a = c.args in quarter_range a.op a.tile a.first a.second c.requires
 
 -- the sum is the row's word
-sum_is : (c : tie.After-by-shape) → c.by_shape.result + (c.before.before.operation-bits.result + c.before.quarter-bits.result) ≡ word_for (described c.before.before.before)
+sum_is : (c : tie.After-by_shape) → c.by_shape.result + (c.before.before.operation_bits.result + c.before.quarter_bits.result) ≡ word_for (described c.before.before.before)
 sum_is c =
     let i = described c.before.before.before in
     let op = c.before.before.before.args.op in

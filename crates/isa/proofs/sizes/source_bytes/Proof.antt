@@ -7,7 +7,7 @@ use Rattle.isa.proofs.sizes.source_bytes.Statement.{statement}
 use Rattle.isa.proofs.sizes.source_bytes.Tie as tie
 
 returns : tie.Need-returns
-returns c = ap₂ ◌/◌ c.before.element-bytes.ensures c.products.ensures
+returns c = ap₂ ◌/◌ c.before.element_bytes.ensures c.products.ensures
 
 pub source_bytes_spec : {M : Type 1} → statement M
 source_bytes_spec =
