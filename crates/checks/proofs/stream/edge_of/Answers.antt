@@ -1,0 +1,15 @@
+-- `checks::stream::edge_of` meets its contract: each arm is the case that its number decides. Assumes nothing.
+use Rattle.std.proofs.Common.{ne_eqb}
+use Rattle.checks.proofs.stream.edge_of.Goals as goal
+
+pub returns-in-0 : goal.returns-in-0
+returns-in-0 c = rw c.in-0.is
+
+pub returns-in-1 : goal.returns-in-1
+returns-in-1 c = rw c.in-1.is
+
+pub returns-in-2 : goal.returns-in-2
+returns-in-2 c = rw c.in-2.is
+
+pub returns-in-3 : goal.returns-in-3
+returns-in-3 c = rw c.in-3.is
