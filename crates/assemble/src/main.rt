@@ -57,8 +57,8 @@ fn none() -> Counts
 
 // Each line in turn; the last may have no line feed.
 fn assemble(text: &[u8]) -> Counts
-    ensures words_value { result.words ≡ count_over words_after 0 (lines text.now) }
-    ensures refused_value { result.refused ≡ count_over refused_after 0 (lines text.now) }
+    ensures words { result.words ≡ count_over words_after 0 (lines text.now) }
+    ensures refused { result.refused ≡ count_over refused_after 0 (lines text.now) }
 {
     let mut counts = none();
     let mut line_number: u64 = 0;
@@ -77,8 +77,8 @@ fn assemble(text: &[u8]) -> Counts
 
 // Counts one line more, which is lent without its line feed, and writes its word or reports its refusal.
 fn take_line(counts: Counts, line_number: u64, line: &[u8]) -> Counts
-    ensures words_value { result.words ≡ words_after counts.words (assembled line.now) }
-    ensures refused_value { result.refused ≡ refused_after counts.refused (assembled line.now) }
+    ensures words { result.words ≡ words_after counts.words (assembled line.now) }
+    ensures refused { result.refused ≡ refused_after counts.refused (assembled line.now) }
 {
     match assemble_line(line) {
         Assembled::LeftOut => counts,
@@ -131,8 +131,8 @@ fn is_comment(line: &[u8]) -> bool
 }
 
 fn take_word(counts: Counts, w: u32) -> Counts
-    ensures words_value { result.words ≡ sum counts.words 1 }
-    ensures refused_value { result.refused ≡ counts.refused }
+    ensures words { result.words ≡ sum counts.words 1 }
+    ensures refused { result.refused ≡ counts.refused }
 {
     let written = write_word(counts, w);
     Counts {
@@ -154,8 +154,8 @@ fn write_word(counts: Counts, w: u32) -> bool {
 }
 
 fn take_refusal(counts: Counts, line_number: u64, refusal: Refusal) -> Counts
-    ensures words_value { result.words ≡ counts.words }
-    ensures refused_value { result.refused ≡ sum counts.refused 1 }
+    ensures words { result.words ≡ counts.words }
+    ensures refused { result.refused ≡ sum counts.refused 1 }
 {
     tell_number(b"line ", line_number);
     tell(b": refused ");

@@ -57,7 +57,7 @@ pub extern "C" fn birdaghol_decode(flags: u32, word: u32) -> u64
 // 0, or the refusal, which leaves fields as they were; 12 where they have fewer places.
 #[unsafe(no_mangle)]
 pub extern "C" fn birdaghol_describe(flags: u32, word: u32, fields: &mut [u32]) -> u64
-    ensures value { result ≡ describe_call flags word (length fields.old) }
+    ensures answer { result ≡ describe_call flags word (length fields.old) }
     ensures fields_after { fields.new ≡ fields_after flags word fields.old }
 {
     match isa::decode(flags, word) {
@@ -69,7 +69,7 @@ pub extern "C" fn birdaghol_describe(flags: u32, word: u32, fields: &mut [u32]) 
 // Puts the text of a word at the start of room. The value is its length.
 #[unsafe(no_mangle)]
 pub extern "C" fn birdaghol_print(flags: u32, word: u32, room: &mut [u8]) -> u64
-    ensures value { result ≡ print_call flags word (length room.old) }
+    ensures answer { result ≡ print_call flags word (length room.old) }
     ensures room_after { room.new ≡ room_after flags word room.old }
 {
     match text::print(flags, word, room) {
@@ -175,7 +175,7 @@ pub extern "C" fn birdaghol_execute(
     za: &mut [u8],
     word: u32,
 ) -> u64
-    ensures value { result ≡ execute_call (on (bench_of flags streaming za_on vb) z.now p.now za.old) word }
+    ensures answer { result ≡ execute_call (on (bench_of flags streaming za_on vb) z.now p.now za.old) word }
     ensures za_after { za.new ≡ (after (on (bench_of flags streaming za_on vb) z.now p.now za.old) word).za }
 {
     refusal_of(machine::execute(bench_of(flags, streaming, za_on, vb), z, p, za, word))
@@ -194,7 +194,7 @@ pub extern "C" fn birdaghol_run(
     za: &mut [u8],
     words: &[u32],
 ) -> u64
-    ensures value { result ≡ run_call (on (bench_of flags streaming za_on vb) z.now p.now za.old) words.now }
+    ensures answer { result ≡ run_call (on (bench_of flags streaming za_on vb) z.now p.now za.old) words.now }
     ensures za_after { za.new ≡ (run_left (on (bench_of flags streaming za_on vb) z.now p.now za.old) words.now).za }
 {
     let ended = machine::run(bench_of(flags, streaming, za_on, vb), z, p, za, words);
@@ -215,7 +215,7 @@ pub extern "C" fn birdaghol_capture_write(
     za: &[u8],
     file: &mut [u8],
 ) -> u64
-    ensures value { result ≡ capture_write_call (capture_of (bench_of flags streaming za_on vb) words.now z.now p.now za.now) (length file.old) }
+    ensures answer { result ≡ capture_write_call (capture_of (bench_of flags streaming za_on vb) words.now z.now p.now za.now) (length file.old) }
     ensures file_after { file.new ≡ room_written (capture_of (bench_of flags streaming za_on vb) words.now z.now p.now za.now) file.old }
 {
     match capture::write(bench_of(flags, streaming, za_on, vb), words, z, p, za, file) {
@@ -330,7 +330,7 @@ fn encode(i: Instruction) -> u64
 
 // The numbers of a description, if there is place for them.
 fn hand_out(i: Instruction, fields: &mut [u32]) -> u64
-    ensures value { result ≡ answer 0 (cond (ltb (length fields.old) field_count) (some Refusal.Room) none) }
+    ensures answer { result ≡ answer 0 (cond (ltb (length fields.old) field_count) (some Refusal.Room) none) }
     ensures fields_after { fields.new ≡ cond (ltb (length fields.old) field_count) fields.old (numbers_of i ++ drop field_count fields.old) }
 {
     if fields.len() < FIELDS {

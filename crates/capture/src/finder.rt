@@ -60,7 +60,7 @@ fn five_parts(file: &[u8]) -> Parts
 // The legal capture whose parts have these lengths.
 fn capture_of(file: &[u8], head: usize, words: usize, z: usize, p: usize, za: usize) -> Found
     requires five_parts { FiveParts file.now head words z p za }
-    requires file_value { get_or file.now 0 0 ≡ 1 }
+    requires version { get_or file.now 0 0 ≡ 1 }
     ensures { Finds file.now result }
 {
     if head != 4 {
@@ -97,8 +97,8 @@ fn bench_at(file: &[u8]) -> Bench
 
 // The legal capture that a file of this version is.
 pub(crate) fn find(file: &[u8]) -> Found
-    requires in_bounds { 1 ≤ length file.now }
-    requires file_value { get_or file.now 0 0 ≡ 1 }
+    requires begins { 1 ≤ length file.now }
+    requires version { get_or file.now 0 0 ≡ 1 }
     ensures { Finds file.now result }
 {
     match five_parts(file) {

@@ -43,8 +43,8 @@ fn take_parts(
     p: &mut [u8],
     za: &mut [u8],
 )
-    requires n_le_most_words { (n ≤ most_words) × (vb ≤ 256) × (za_size vb ≤ 65536) × (za_at n vb + za_size vb ≤ length file.now) }
-    requires n_in_bounds { (n ≤ length words.old) × (z_size vb ≤ length z.old) × (p_size vb ≤ length p.old) × (za_size vb ≤ length za.old) }
+    requires file_holds { (n ≤ most_words) × (vb ≤ 256) × (za_size vb ≤ 65536) × (za_at n vb + za_size vb ≤ length file.now) }
+    requires rooms_hold { (n ≤ length words.old) × (z_size vb ≤ length z.old) × (p_size vb ≤ length p.old) × (za_size vb ≤ length za.old) }
     ensures words_after { words.new ≡ words_at file.now 13 n ++ drop n words.old }
     ensures z_after { z.new ≡ bytes_at file.now (z_at n) (z_size vb) ++ drop (z_size vb) z.old }
     ensures p_after { p.new ≡ bytes_at file.now (p_at n vb) (p_size vb) ++ drop (p_size vb) p.old }

@@ -14,36 +14,36 @@ const PREDICATES: usize = 512;
 const TILES: usize = 65536;
 
 pub fn words_room() -> [u32; machine::MOST_WORDS]
-    ensures value { result ≡ replicate most_words 0 }
-    ensures result_len { length result ≡ most_words }
+    ensures answer { result ≡ replicate most_words 0 }
+    ensures len { length result ≡ most_words }
 {
     [0; machine::MOST_WORDS]
 }
 
 pub fn vectors_room() -> [u8; VECTORS]
-    ensures value { result ≡ replicate (z_size 256) 0 }
-    ensures result_len { length result ≡ z_size 256 }
+    ensures answer { result ≡ replicate (z_size 256) 0 }
+    ensures len { length result ≡ z_size 256 }
 {
     [0; VECTORS]
 }
 
 pub fn predicates_room() -> [u8; PREDICATES]
-    ensures value { result ≡ replicate (p_size 256) 0 }
-    ensures result_len { length result ≡ p_size 256 }
+    ensures answer { result ≡ replicate (p_size 256) 0 }
+    ensures len { length result ≡ p_size 256 }
 {
     [0; PREDICATES]
 }
 
 pub fn tiles_room() -> [u8; TILES]
-    ensures value { result ≡ replicate (za_size 256) 0 }
-    ensures result_len { length result ≡ za_size 256 }
+    ensures answer { result ≡ replicate (za_size 256) 0 }
+    ensures len { length result ≡ za_size 256 }
 {
     [0; TILES]
 }
 
 pub fn file_room() -> [u8; LONGEST]
-    ensures value { result ≡ replicate longest 0 }
-    ensures result_len { length result ≡ longest }
+    ensures answer { result ≡ replicate longest 0 }
+    ensures len { length result ≡ longest }
 {
     [0; LONGEST]
 }

@@ -13,10 +13,10 @@ use machine::{Bench, Outcome};
 
 // Puts the file at the start of room. The bytes after it stay; refused, all of them do.
 pub fn write(bench: Bench, words: &[u32], z: &[u8], p: &[u8], za: &[u8], room: &mut [u8]) -> Written
-    ensures value { result ≡ write_of (capture_of bench words.now z.now p.now za.now) (length room.old) }
+    ensures answer { result ≡ write_of (capture_of bench words.now z.now p.now za.now) (length room.old) }
     ensures room_after { room.new ≡ room_written (capture_of bench words.now z.now p.now za.now) room.old }
-    ensures result_value { written_number result ≡ write_number (capture_of bench words.now z.now p.now za.now) (length room.old) }
-    ensures result_value_2 { written_length result ≡ write_length (capture_of bench words.now z.now p.now za.now) (length room.old) }
+    ensures number { written_number result ≡ write_number (capture_of bench words.now z.now p.now za.now) (length room.old) }
+    ensures len { written_length result ≡ write_length (capture_of bench words.now z.now p.now za.now) (length room.old) }
 {
     match machine::check_run(bench, z.len(), p.len(), za.len(), words.len()) {
         Outcome::Refused(r) => Written::Refused(r),
@@ -33,8 +33,8 @@ pub fn write(bench: Bench, words: &[u32], z: &[u8], p: &[u8], za: &[u8], room: &
 
 // The file of legal sizes to the start of a room that is long enough.
 fn fill(bench: Bench, words: &[u32], z: &[u8], p: &[u8], za: &[u8], room: &mut [u8])
-    requires flags_le_all_flags { (bench.flags ≤ all_flags) × (bench.vb ≤ 256) × (length words.now ≤ most_words) × (length z.now ≤ 8192) × (length p.now ≤ 512) × (length za.now ≤ 65536) }
-    requires za_in_bounds { 25 + 4 * length words.now + length z.now + length p.now + length za.now ≤ length room.old }
+    requires bounds { (bench.flags ≤ all_flags) × (bench.vb ≤ 256) × (length words.now ≤ most_words) × (length z.now ≤ 8192) × (length p.now ≤ 512) × (length za.now ≤ 65536) }
+    requires fits { 25 + 4 * length words.now + length z.now + length p.now + length za.now ≤ length room.old }
     ensures { room.new ≡ sets room.old 0 (bytes_of_capture (capture_of bench words.now z.now p.now za.now)) }
 {
     put_head(bench, room);

@@ -10,8 +10,8 @@ pub const INPUT_ROOM: usize = 4194304;
 
 // Room for it, as a function of its own: proofs take the array by its length, as it is too long to compute with.
 pub fn input_room() -> [u8; INPUT_ROOM]
-    ensures value { result ≡ replicate input_room 0 }
-    ensures input_room_value { input_room ≡ length result }
+    ensures answer { result ≡ replicate input_room 0 }
+    ensures len { input_room ≡ length result }
 {
     [0; INPUT_ROOM]
 }

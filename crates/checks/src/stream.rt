@@ -6,7 +6,7 @@ use crate::Fill;
 
 // Fills the bytes from the stream that stands at x, and answers where it stands afterwards.
 pub fn generate(x: u32, fill: Fill, bytes: &mut [u8]) -> u32
-    ensures value { result ≡ stood x (length bytes.old) }
+    ensures answer { result ≡ stood x (length bytes.old) }
     ensures bytes_after { bytes.new ≡ streamed fill x (length bytes.old) }
 {
     let mut x = x;

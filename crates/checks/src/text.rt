@@ -48,8 +48,8 @@ pub fn hexadecimal_of(text: &[u8]) -> Number
 
 // Where the field that starts at `at` has the byte that ends it, or the end of the text if it has none.
 pub fn field_end(text: &[u8], at: usize, last: u8) -> usize
-    ensures value { result ≡ at + field_length last (drop at text.now) }
-    ensures lower_bound { (at ≤ result) × (result ≤ at + (length text.now - at)) }
+    ensures answer { result ≡ at + field_length last (drop at text.now) }
+    ensures bounds { (at ≤ result) × (result ≤ at + (length text.now - at)) }
 {
     let mut end = at;
     while end < text.len() {

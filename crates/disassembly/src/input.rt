@@ -6,7 +6,7 @@ use crate::Begun;
 
 // How many bytes have come.
 pub(crate) fn count(begun: Begun) -> usize
-    ensures value { result ≡ length (pending begun) }
+    ensures answer { result ≡ length (pending begun) }
     ensures upper_bound { result ≤ 3 }
 {
     match begun {

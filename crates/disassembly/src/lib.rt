@@ -50,7 +50,7 @@ pub fn start() -> Place
 // Puts the lines of the words that a piece completes at the start of room; the bytes after them stay. No more of it is taken than
 // has room whatever the words are: LONGEST_LINE for each word that it may complete takes all of it.
 pub fn list(place: Place, piece: &[u8], room: &mut [u8]) -> Advance
-    ensures value { result ≡ list_of place piece.now (length room.old) }
+    ensures answer { result ≡ list_of place piece.now (length room.old) }
     ensures room_after { room.new ≡ room_listed place piece.now room.old }
 {
     let begun = place.begun;
@@ -61,11 +61,11 @@ pub fn list(place: Place, piece: &[u8], room: &mut [u8]) -> Advance
 
 // Puts the line of an odd end, if there is one, at the start of room; the bytes after it stay. Refused, all of them do.
 pub fn finish(place: Place, room: &mut [u8]) -> Printed
-    ensures value { result ≡ finish_of place (length room.old) }
+    ensures answer { result ≡ finish_of place (length room.old) }
     ensures room_after { room.new ≡ room_finished place room.old }
-    ensures result_value { printed_number result ≡ finish_number place (length room.old) }
-    ensures result_value_2 { printed_missing result ≡ finish_missing place (length room.old) }
-    ensures result_value_3 { printed_length result ≡ finish_length place (length room.old) }
+    ensures number { printed_number result ≡ finish_number place (length room.old) }
+    ensures missing { printed_missing result ≡ finish_missing place (length room.old) }
+    ensures len { printed_length result ≡ finish_length place (length room.old) }
 {
     let begun = place.begun;
     let n = input::count(begun);
@@ -82,7 +82,7 @@ pub fn finish(place: Place, room: &mut [u8]) -> Printed
 // All of a piece, for which there is room.
 fn list_all(place: Place, piece: &[u8], room: &mut [u8]) -> Advance
     requires { length (joined place piece.now) ≤ 4 * (length room.old / longest_line) + 3 }
-    ensures value { result ≡ listed_all place piece.now }
+    ensures answer { result ≡ listed_all place piece.now }
     ensures room_after { room.new ≡ sets room.old 0 (lines_for place piece.now) }
 {
     let begun = place.begun;

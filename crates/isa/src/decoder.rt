@@ -33,9 +33,9 @@ pub fn flags_legal(flags: u32) -> bool
 
 // The instruction that a word is, or why it is none: illegal flags, an unlisted word, a missing feature.
 pub fn decode(flags: u32, word: u32) -> Decoded
-    ensures value { result ≡ decode_of flags word }
-    ensures result_value { decoded_number result ≡ decode_number flags word }
-    ensures result_value_2 { decoded_missing result ≡ decode_missing flags word }
+    ensures answer { result ≡ decode_of flags word }
+    ensures number { decoded_number result ≡ decode_number flags word }
+    ensures missing { decoded_missing result ≡ decode_missing flags word }
 {
     if !flags_legal(flags) {
         return Decoded::Refused(Refusal::Flags);
@@ -49,9 +49,9 @@ pub fn decode(flags: u32, word: u32) -> Decoded
 
 // The refusal of that answer, if it has one. No description is made, which would go through memory.
 pub fn check(flags: u32, word: u32) -> Checked
-    ensures result_value { checked_refusal result ≡ decode_refusal flags word }
-    ensures result_value_2 { refusal_number (checked_refusal result) ≡ decode_number flags word }
-    ensures result_value_3 { refusal_missing (checked_refusal result) ≡ decode_missing flags word }
+    ensures refusal { checked_refusal result ≡ decode_refusal flags word }
+    ensures number { refusal_number (checked_refusal result) ≡ decode_number flags word }
+    ensures missing { refusal_missing (checked_refusal result) ≡ decode_missing flags word }
 {
     if !flags_legal(flags) {
         return Checked::Refused(Refusal::Flags);
@@ -138,7 +138,7 @@ fn check_line(line: Line) -> Checked
 // A feature's flag where flags lack it, else 0.
 fn lacked(flags: u32, flag: u32) -> u32
     requires { 0 < flag }
-    ensures value { result ≡ cond (eqb (flags / flag % 2) 1) 0 flag }
+    ensures answer { result ≡ cond (eqb (flags / flag % 2) 1) 0 flag }
     ensures upper_bound { result ≤ flag }
 {
     if flags / flag % 2 == 1 { 0 } else { flag }

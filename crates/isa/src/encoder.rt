@@ -46,9 +46,9 @@ const AT_QUARTER_ZN: u32 = 0x40;
 
 // The one word of a description that is in range; any other is refused.
 pub fn encode(i: Instruction) -> Encoded
-    ensures value { result ≡ encode_of i }
-    ensures result_value { encoded_number result ≡ encode_number i }
-    ensures result_value_2 { encoded_word result ≡ encode_word i }
+    ensures answer { result ≡ encode_of i }
+    ensures number { encoded_number result ≡ encode_number i }
+    ensures word { encoded_word result ≡ encode_word i }
 {
     match i {
         Instruction::Predicated {

@@ -80,7 +80,7 @@ fn read_and_list(place: Place, room: &mut [u8]) -> Step
 // Lists all of a piece, at the start of a room that is large enough.
 fn list_whole(place: Place, piece: &[u8], room: &mut [u8]) -> Advance
     requires { room_for (length piece.now) ≤ length room.old }
-    ensures value { result ≡ listed_all place piece.now }
+    ensures answer { result ≡ listed_all place piece.now }
     ensures room_after { room.new ≡ lines_for place piece.now ++ drop (length (lines_for place piece.now)) room.old }
 {
     disassembly::list(place, piece, room)
@@ -89,7 +89,7 @@ fn list_whole(place: Place, piece: &[u8], room: &mut [u8]) -> Advance
 // Puts the line of an odd end, if there is one, at the start of a room that holds it, and answers its length.
 fn put_end(place: Place, room: &mut [u8]) -> usize
     requires { end_room ≤ length room.old }
-    ensures value { result ≡ length (end_for place) }
+    ensures answer { result ≡ length (end_for place) }
     ensures room_after { room.new ≡ end_for place ++ drop (length (end_for place)) room.old }
 {
     match disassembly::finish(place, room) {

@@ -17,10 +17,10 @@ use isa::{Decoded, Instruction};
 
 // Executes a word on ZA, or refuses it and leaves ZA as it was.
 pub fn execute(bench: Bench, z: &[u8], p: &[u8], za: &mut [u8], word: u32) -> Outcome
-    ensures value { result ≡ outcome (refusal_of (on bench z.now p.now za.old) word) }
+    ensures answer { result ≡ outcome (refusal_of (on bench z.now p.now za.old) word) }
     ensures za_after { za.new ≡ (after (on bench z.now p.now za.old) word).za }
-    ensures result_value { outcome_number result ≡ execute_number (on bench z.now p.now za.old) word }
-    ensures result_value_2 { outcome_missing result ≡ execute_missing (on bench z.now p.now za.old) word }
+    ensures number { outcome_number result ≡ execute_number (on bench z.now p.now za.old) word }
+    ensures missing { outcome_missing result ≡ execute_missing (on bench z.now p.now za.old) word }
 {
     match check_bench(bench, z.len(), p.len(), za.len()) {
         Outcome::Refused(r) => Outcome::Refused(r),
@@ -31,7 +31,7 @@ pub fn execute(bench: Bench, z: &[u8], p: &[u8], za: &mut [u8], word: u32) -> Ou
 // A word by itself, on a bench that passed 1 to 5. Every tile counts as cleared.
 fn execute_word(bench: Bench, z: &[u8], p: &[u8], za: &mut [u8], word: u32) -> Outcome
     requires { first_failure (machine_tests (on bench z.now p.now za.old)) ≡ none }
-    ensures value { result ≡ outcome (word_refusal (on bench z.now p.now za.old) word) }
+    ensures answer { result ≡ outcome (word_refusal (on bench z.now p.now za.old) word) }
     ensures za_after { za.new ≡ (word_left (on bench z.now p.now za.old) word).za }
 {
     match execute_next(bench, z, p, za, 0xFF, word) {
@@ -51,7 +51,7 @@ pub(crate) fn execute_next(
     word: u32,
 ) -> Decoded
     requires { first_failure (machine_tests (on bench z.now p.now za.old)) ≡ none }
-    ensures value { result ≡ decided (first_failure (next_tests bench (masked cleared) word)) (describe word) }
+    ensures answer { result ≡ decided (first_failure (next_tests bench (masked cleared) word)) (describe word) }
     ensures za_after { za.new ≡ (left_by (on bench z.now p.now za.old) word (first_failure (next_tests bench (masked cleared) word))).za }
 {
     match admit_next(bench, cleared, word) {
@@ -65,8 +65,8 @@ pub(crate) fn execute_next(
 
 // What an admitted instruction does to ZA.
 fn perform(bench: Bench, i: Instruction, z: &[u8], p: &[u8], za: &mut [u8])
-    requires za_value { first_failure (machine_tests (on bench z.now p.now za.old)) ≡ none }
-    requires i_value { in_range i ≡ true }
+    requires bench_passes { first_failure (machine_tests (on bench z.now p.now za.old)) ≡ none }
+    requires ranged { in_range i ≡ true }
     ensures { za.new ≡ (effect (on bench z.now p.now za.old) (some i)).za }
 {
     let vb = bench.vb;

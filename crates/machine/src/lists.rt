@@ -18,11 +18,11 @@ pub const MOST_WORDS: usize = 65536;
 
 // Executes words in turn and leaves the list at the first that is refused.
 pub fn run(bench: Bench, z: &[u8], p: &[u8], za: &mut [u8], words: &[u32]) -> Ended
-    ensures value { result ≡ run_of (on bench z.now p.now za.old) words.now }
+    ensures answer { result ≡ run_of (on bench z.now p.now za.old) words.now }
     ensures za_after { za.new ≡ (run_left (on bench z.now p.now za.old) words.now).za }
-    ensures count_value { result.count ≡ run_count (on bench z.now p.now za.old) words.now }
-    ensures outcome_value { outcome_number result.outcome ≡ run_number (on bench z.now p.now za.old) words.now }
-    ensures outcome_value_2 { outcome_missing result.outcome ≡ run_missing (on bench z.now p.now za.old) words.now }
+    ensures count { result.count ≡ run_count (on bench z.now p.now za.old) words.now }
+    ensures number { outcome_number result.outcome ≡ run_number (on bench z.now p.now za.old) words.now }
+    ensures missing { outcome_missing result.outcome ≡ run_missing (on bench z.now p.now za.old) words.now }
 {
     match check_run(bench, z.len(), p.len(), za.len(), words.len()) {
         Outcome::Refused(r) => Ended {
@@ -35,9 +35,9 @@ pub fn run(bench: Bench, z: &[u8], p: &[u8], za: &mut [u8], words: &[u32]) -> En
 
 // Tests 1 to 6, of a bench, the lengths of Z, P and ZA and the number of words: whether a run begins.
 pub fn check_run(bench: Bench, z: usize, p: usize, za: usize, words: usize) -> Outcome
-    ensures value { result ≡ outcome (first_failure (start_tests bench z p za words)) }
-    ensures result_value { outcome_number result ≡ refusal_number (first_failure (start_tests bench z p za words)) }
-    ensures result_value_2 { outcome_missing result ≡ 0 }
+    ensures answer { result ≡ outcome (first_failure (start_tests bench z p za words)) }
+    ensures number { outcome_number result ≡ refusal_number (first_failure (start_tests bench z p za words)) }
+    ensures missing { outcome_missing result ≡ 0 }
 {
     match check_bench(bench, z, p, za) {
         Outcome::Refused(r) => Outcome::Refused(r),
@@ -53,7 +53,7 @@ pub fn check_run(bench: Bench, z: usize, p: usize, za: usize, words: usize) -> O
 // The words of a run on a bench that passed 1 to 5. Nothing is cleared before the first, whatever ZA holds.
 fn run_words(bench: Bench, z: &[u8], p: &[u8], za: &mut [u8], words: &[u32]) -> Ended
     requires { first_failure (machine_tests (on bench z.now p.now za.old)) ≡ none }
-    ensures value { result ≡ end_of (at_start (on bench z.now p.now za.old)) words.now }
+    ensures answer { result ≡ end_of (at_start (on bench z.now p.now za.old)) words.now }
     ensures za_after { za.new ≡ (left_at_end (at_start (on bench z.now p.now za.old)) words.now).za }
 {
     let mut cleared = 0u8;

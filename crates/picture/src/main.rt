@@ -86,7 +86,7 @@ fn show_file(
 // The header of the image, then its pixels.
 fn draw(vb: usize, za: &[u8], room: &mut [u8]) -> usize
     requires { (vb ≤ 256) × (length za.now ≤ 65536) × (longest_image ≤ length room.old) }
-    ensures value { result ≡ 15 + 4 * length za.now }
+    ensures answer { result ≡ 15 + 4 * length za.now }
     ensures room_after { room.new ≡ sets (header vb ++ drop 15 room.old) 15 (pixels 0 za.now) }
 {
     put_header(vb, room);

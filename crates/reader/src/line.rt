@@ -10,10 +10,10 @@ use text::Printed;
 
 // The word that has this text, or why there is none: illegal flags, no listed word with it, a missing feature.
 pub fn read(flags: u32, line: &[u8]) -> Reading
-    ensures value { result ≡ read_of flags line.now }
-    ensures result_value { reading_number result ≡ read_number flags line.now }
-    ensures result_value_2 { reading_missing result ≡ read_missing flags line.now }
-    ensures result_value_3 { reading_word result ≡ read_word flags line.now }
+    ensures answer { result ≡ read_of flags line.now }
+    ensures number { reading_number result ≡ read_number flags line.now }
+    ensures missing { reading_missing result ≡ read_missing flags line.now }
+    ensures word { reading_word result ≡ read_word flags line.now }
 {
     if !isa::flags_legal(flags) {
         return Reading::Refused(Refusal::Flags);

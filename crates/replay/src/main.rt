@@ -106,7 +106,7 @@ fn run_and_write(
     za: &mut [u8],
     room: &mut [u8],
 ) -> Replayed
-    ensures value { result ≡ told bench (length words.now) (run_of (on bench z.now p.now za.old) words.now) (write_of (capture_of bench words.now z.now p.now (run_left (on bench z.now p.now za.old) words.now).za) (length room.old)) }
+    ensures answer { result ≡ told bench (length words.now) (run_of (on bench z.now p.now za.old) words.now) (write_of (capture_of bench words.now z.now p.now (run_left (on bench z.now p.now za.old) words.now).za) (length room.old)) }
     ensures room_after { room.new ≡ room_written (capture_of bench words.now z.now p.now (run_left (on bench z.now p.now za.old) words.now).za) room.old }
 {
     let ended = machine::run(bench, z, p, za, words);

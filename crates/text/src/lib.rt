@@ -19,11 +19,11 @@ pub enum Printed {
 
 // Puts the text of a word at the start of room. The bytes after it stay; refused, all of them do.
 pub fn print(flags: u32, word: u32, room: &mut [u8]) -> Printed
-    ensures value { result ≡ print_of flags word (length room.old) }
+    ensures answer { result ≡ print_of flags word (length room.old) }
     ensures room_after { room.new ≡ room_after flags word room.old }
-    ensures result_value { printed_number result ≡ print_number flags word (length room.old) }
-    ensures result_value_2 { printed_missing result ≡ print_missing flags word (length room.old) }
-    ensures result_value_3 { printed_length result ≡ print_length flags word (length room.old) }
+    ensures number { printed_number result ≡ print_number flags word (length room.old) }
+    ensures missing { printed_missing result ≡ print_missing flags word (length room.old) }
+    ensures len { printed_length result ≡ print_length flags word (length room.old) }
 {
     match isa::decode(flags, word) {
         Decoded::Accepted(i) => print_line(i, room),
@@ -34,7 +34,7 @@ pub fn print(flags: u32, word: u32, room: &mut [u8]) -> Printed
 // The line is spelt aside first: whether it fits is known only when it is whole.
 fn print_line(i: Instruction, room: &mut [u8]) -> Printed
     requires { in_range i ≡ true }
-    ensures value { result ≡ printed_in i (length room.old) }
+    ensures answer { result ≡ printed_in i (length room.old) }
     ensures room_after { room.new ≡ filled_with i room.old }
 {
     let mut text = [0u8; 48];

@@ -143,8 +143,8 @@ fn compare(
 ) -> Tally
     requires updatable { Updatable vb o z.now p.now za.old }
     requires plain_len { (length plain.old ≡ length za.old) × (length start.now ≡ length za.old) }
-    ensures updatable_2 { Updatable vb o z.now p.now za.new }
-    ensures plain_len_2 { length plain.new ≡ length za.new }
+    ensures still_updatable { Updatable vb o z.now p.now za.new }
+    ensures same_len { length plain.new ≡ length za.new }
 {
     cases::walk(false, vb, o, z, p, za);
     cases::walk(true, vb, o, z, p, plain);

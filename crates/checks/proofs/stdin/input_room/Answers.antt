@@ -6,4 +6,4 @@ use Rattle.checks.specs.Stdin.{input_room}
 use Rattle.checks.proofs.stdin.input_room.Goals as goal
 
 pub returns : goal.returns
-returns c = record { value = refl; input_room_value = sym (length-replicate {0} {A = ℕ} input_room 0) }
+returns c = record { answer = refl; len = sym (length-replicate {0} {A = ℕ} input_room 0) }

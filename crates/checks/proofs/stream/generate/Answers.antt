@@ -24,4 +24,4 @@ returns c =
     let l = c.loop-i in
     let n = length c.args.bytes.now in
     let e : l.i ≡ length c.args.bytes.now = omega arith in
-    record { value = sym (stood-ends l.x l.i n e) ∙ l.invariant.2; bytes_after = sym (streamed-ends l.x l.i n e _ l.bytes l.invariant.1) ∙ l.invariant.3 }
+    record { answer = sym (stood-ends l.x l.i n e) ∙ l.invariant.2; bytes_after = sym (streamed-ends l.x l.i n e _ l.bytes l.invariant.1) ∙ l.invariant.3 }

@@ -11,7 +11,7 @@ returns-then-text-end c =
     let l = c.loop-end in
     let a = c.args in
     let e = field-ends a.text.now l.end (omega arith) a.last c.if-text-end.true in
-    record { value = omega (arith, l.invariant.2); lower_bound = omega arith }
+    record { answer = omega (arith, l.invariant.2); bounds = omega arith }
 
 pub loop-end-preserved : goal.loop-end-preserved
 loop-end-preserved c =
@@ -25,4 +25,4 @@ returns c =
     let l = c.loop-end in
     let a = c.args in
     let e = field-over a.last a.text.now l.end (omega arith) in
-    record { value = omega (arith, l.invariant.2); lower_bound = omega arith }
+    record { answer = omega (arith, l.invariant.2); bounds = omega arith }

@@ -2,7 +2,6 @@
 -- Assumes nothing.
 use mathlib.Core.Path.{◌≡◌}
 use Prim.Native.Nat.{ℕ, ◌+◌, ◌*◌, ◌/◌, ◌%◌}
-use borrow.Author.Rules.{rules}
 use lib.Dec.{eqb}
 use Rattle.isa.specs.Row.{field_of}
 use Rattle.isa.specs.Table.{predicated32, quarter, described, operation_of_fields, source, element_bytes, tiles_of}
@@ -13,8 +12,7 @@ use Rattle.isa.specs.declared.Operation.{Operation}
 use Rattle.isa.specs.declared.Source.{Source}
 use Rattle.isa.specs.declared.Instruction.TheVariants.{Quarter}
 use Rattle.isa.proofs.Lines.{tile_read}
-use Rattle.isa.proofs.decoder.describe_quarter.Statement.{statement}
-use Rattle.isa.proofs.decoder.describe_quarter.Tie as tie
+use Rattle.isa.proofs.decoder.describe_quarter.Goals as goal
 
 at_is : (s : Shape) (w : ℕ) {op : Operation} {tile : Tile} {first second : Source} → op ≡ operation_of_fields s (field_of predicated32 w)
     → tile ≡ record { 0 = w / 1 % tiles_of (element_bytes (operation_of_fields s (field_of predicated32 w))) }
@@ -24,21 +22,7 @@ at_is Bytes32 w p q m n = rw (p, q, m, n)
 at_is Halves64 w p q m n = rw (p, q, m, n)
 at_is Halves32 w p q m n = rw (p, q, m, n)
 
-returns : tie.Need-returns
+pub returns : goal.returns
 returns c =
-    let t = c.before.before in
-    let op = t.before.operation-of.ensures in
-    at_is t.before.before.args.shape _ op (tile_read _ op t.tile-of.ensures) c.before.source_of.ensures c.source-of2.ensures
-
-pub describe_quarter_spec : {M : Type 1} → statement M
-describe_quarter_spec =
-    tie.close
-    (tie.spec
-    (λ c κs. tt)
-    (λ c κs. tt)
-    (λ c. search rules)
-    (λ c κs. tt)
-    (λ c. search rules)
-    (λ c. search rules)
-    (λ c κs. tt)
-    returns)
+    let op = c.operation_of-op.ensures in
+    at_is c.args.shape _ op (tile_read _ op c.tile_of.ensures) c.source_of.ensures c.source_of-2.ensures

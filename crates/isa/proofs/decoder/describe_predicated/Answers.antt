@@ -11,8 +11,7 @@ use Rattle.isa.specs.declared.Operation.{Operation}
 use Rattle.isa.specs.declared.Instruction.{Instruction}
 use Rattle.isa.specs.declared.Instruction.TheVariants.{Predicated}
 use Rattle.isa.proofs.Lines.{tile_read}
-use Rattle.isa.proofs.decoder.describe_predicated.Statement.{statement}
-use Rattle.isa.proofs.decoder.describe_predicated.Tie as tie
+use Rattle.isa.proofs.decoder.describe_predicated.Goals as goal
 
 abbrev at : ℕ → Operation → Tile → Instruction
 at w op tile = Predicated op tile (record { 0 = w / 1024 % 8 }) (record { 0 = w / 8192 % 8 }) (record { 0 = w / 32 % 32 }) (record { 0 = w / 65536 % 32 })
@@ -23,10 +22,7 @@ at_is Bytes32 w p q = ap₂ (at w) p q
 at_is Halves64 w p q = ap₂ (at w) p q
 at_is Halves32 w p q = ap₂ (at w) p q
 
-returns : tie.Need-returns
+pub returns : goal.returns
 returns c =
-    let op = c.before.operation-of.ensures in
-    at_is c.before.before.args.shape _ op (tile_read _ op c.tile-of.ensures)
-
-pub describe_predicated_spec : {M : Type 1} → statement M
-describe_predicated_spec = tie.close (tie.spec (λ c κs. tt) (λ c κs. tt) returns)
+    let op = c.operation_of-op.ensures in
+    at_is c.args.shape _ op (tile_read _ op c.tile_of.ensures)

@@ -1,9 +1,0 @@
--- `isa::decoder::is_predicated32` meets its contract: its tests are the row's, joined from the left. Assumes nothing.
-use Rattle.isa.specs.Row.{tests}
-use Rattle.isa.specs.Table.{predicated32}
-use Rattle.isa.proofs.Tests.{joined-every}
-use Rattle.isa.proofs.decoder.is_predicated32.Statement.{statement}
-use Rattle.isa.proofs.decoder.is_predicated32.Tie as tie
-
-pub is_predicated32_spec : {M : Type 1} → statement M
-is_predicated32_spec = tie.close (tie.spec (λ c. joined-every (tests predicated32 c.args.w)))

@@ -1,9 +1,0 @@
--- `isa::decoder::is_quarter64` meets its contract: its tests are the row's, joined from the left. Assumes nothing.
-use Rattle.isa.specs.Row.{tests}
-use Rattle.isa.specs.Table.{quarter64}
-use Rattle.isa.proofs.Tests.{joined-every}
-use Rattle.isa.proofs.decoder.is_quarter64.Statement.{statement}
-use Rattle.isa.proofs.decoder.is_quarter64.Tie as tie
-
-pub is_quarter64_spec : {M : Type 1} → statement M
-is_quarter64_spec = tie.close (tie.spec (λ c. joined-every (tests quarter64 c.args.w)))
