@@ -18,7 +18,7 @@ pub returns-in-Quarter32 : goal.returns-in-Quarter32
 returns-in-Quarter32 c = rw c.in-Quarter32.is (one c.lacked-in-Quarter32.ensures.answer)
 
 pub returns-in-Quarter64 : goal.returns-in-Quarter64
-returns-in-Quarter64 c = rw c.in-Quarter64.is (ap₂ ◌+◌ c.lacked-in-Quarter64.ensures.answer (one c.lacked-in-Quarter64-2.ensures.answer.value))
+returns-in-Quarter64 c = rw c.in-Quarter64.is (ap₂ ◌+◌ c.lacked-in-Quarter64.ensures.answer (one c.lacked-in-Quarter64-2.ensures.answer))
 
 pub returns-in-Zero : goal.returns-in-Zero
 returns-in-Zero c = rw c.in-Zero.is (one c.lacked-in-Zero.ensures.answer)
