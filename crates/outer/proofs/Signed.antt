@@ -65,7 +65,7 @@ module _ {B n : ℕ} (u : ByteOrHalf B) (below : n < 256 ^ B) where
 
 -- and read back
 pub read_back : (x : ℤ) → mag x ≤ 65536 → to_z w32 (of_z w32 x) ≡ x
-read_back x h = to_z-of_z (record { sfits = omega arith })
+read_back x h = to_z-of_z {w = w32} (record { sfits = omega arith })
 
 pub back_small : {N : ℕ} (x : ℤ) → N ≤ 65536 → mag x ≤ N → mag (to_z w32 (of_z w32 x)) ≤ N
 back_small x l h = rw (read_back x (omega arith)) h

@@ -5,10 +5,10 @@ use Rattle.outer.proofs.Rows.{Begun, begun_none, begun_more, begun_all, not-mask
 use Rattle.outer.proofs.clear.clear_row.Statement.{statement}
 use Rattle.outer.proofs.clear.clear_row.Tie as tie
 
-abbrev invariant-loop : tie.invariant-loop
+abbrev invariant-loop : tie.invariant-loop-i
 invariant-loop vb mask row za₀ tile start i₀ za i = (i ≤ vb) × Begun (row * vb) i za₀ za
 
-abbrev decreases-loop : tie.decreases-loop
+abbrev decreases-loop : tie.decreases-loop-i
 decreases-loop vb mask row za₀ tile start i₀ za i = vb - i
 
 zero_bit : (x : ℕ) → x % 2 ≡ 0 → eqb (x % 2) 1 ≡ false
@@ -25,27 +25,27 @@ module _ (c : tie.Start invariant-loop decreases-loop) where
   ends : (c.args.row * c.args.vb + c.args.vb ≤ c.args.vb * c.args.vb) × (c.args.vb * c.args.vb ≤ 65536)
   ends = (omega (arith, mul-le-mul_right c.args.vb c.requires.2), mul-le-mul size.most size.most)
 
-returns : tie.Need-returns invariant-loop decreases-loop
-returns c = let a = c.before.args in not-masked a.vb a.mask a.row a.za.now (zero_bit _ c.if1.true)
+returns : tie.Need-returns-then-mask-tile-eq0 invariant-loop decreases-loop
+returns c = let a = c.args in not-masked a.vb a.mask a.row a.za.now (zero_bit _ c.if-mask-tile-eq0.true)
 
-add-za : tie.Need-overflow-add-za invariant-loop decreases-loop
+add-za : tie.Need-overflow_add-za invariant-loop decreases-loop
 add-za c = omega (arith, ends c.before.before.before)
 
-slice-write-za : tie.Need-slice-write-za invariant-loop decreases-loop
-slice-write-za c = omega (arith, ends c.before.before.before, c.before.loop.invariant.1.long, c.before.before.before.requires.1)
+slice-write-za : tie.Need-bounds-za-start invariant-loop decreases-loop
+slice-write-za c = omega (arith, ends c.before.before.before, c.loop-i.invariant.1.long, c.requires.1)
 
-loop-again : tie.Need-loop-preserved invariant-loop decreases-loop
+loop-again : tie.Need-loop-i-preserved invariant-loop decreases-loop
 loop-again c =
-    let begun = c.before.loop.invariant.1 in
-    (omega arith, begun_more _ _ _ _ begun (omega (arith, ends c.before.before.before, begun.long, c.before.before.before.requires.1)))
+    let begun = c.loop-i.invariant.1 in
+    (omega arith, begun_more _ _ _ _ begun (omega (arith, ends c.before.before.before, begun.long, c.requires.1)))
 
-returns-2 : tie.Need-returns-2 invariant-loop decreases-loop
+returns-2 : tie.Need-returns invariant-loop decreases-loop
 returns-2 c =
     let s = c.before.before.before in
     let a = s.args in
-    let l = c.before.loop in
+    let l = c.loop-i in
     let e : l.i ≡ a.vb = omega arith in
-    begun_all a.vb a.mask a.row a.za.now _ (omega (arith, size s)) (one_bit _ c.before.before.if1.false) (rw e at l.invariant.1)
+    begun_all a.vb a.mask a.row a.za.now _ (omega (arith, size s)) (one_bit _ c.if-mask-tile-eq0.false) (rw e at l.invariant.1)
 
 pub clear_row_spec : {M : Type 1} → statement M
 clear_row_spec =
@@ -63,5 +63,5 @@ clear_row_spec =
     (λ c. omega arith)
     (λ c. omega arith)
     loop-again
-    (λ c. c.before.loop.invariant.1.long)
+    (λ c. c.loop-i.invariant.1.long)
     returns-2)

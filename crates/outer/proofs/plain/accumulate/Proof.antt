@@ -17,35 +17,35 @@ taken_way z e = rw e
 small : (s : tie.Start) → 256 ^ (s.args.e / s.args.k) ≤ 65536
 small s = half_small (shape s.requires.0).source
 
-module _ (c : tie.After-multiply) where
+module _ (c : tie.After-multiply-product) where
   abbrev called : tie.Start
   called = c.before
 
   abbrev p : ℤ
-  p = c.multiply.result
+  p = c.multiply-product.result
 
   product : p ≡ called.args.x *ℤ called.args.y
   product =
       let a = called.args in
-      c.multiply.ensures.0
-      ∙ ap₂ ◌*ℤ◌ (read_back a.x (omega (arith, called.pre.1.1, small called))) (read_back a.y (omega (arith, called.pre.1.2, small called)))
+      c.multiply-product.ensures.0
+      ∙ ap₂ ◌*ℤ◌ (read_back a.x (omega (arith, called.requires.1.1, small called))) (read_back a.y (omega (arith, called.requires.1.2, small called)))
 
   product_small : mag p < 0x400000000
-  product_small = omega (arith, c.multiply.ensures.1)
+  product_small = omega (arith, c.multiply-product.ensures.1)
 
-returns : tie.Need-returns
+returns : tie.Need-returns-then-subtract
 returns c =
     let m = c.before.before in
     let a = (called m).args in
-    c.add-signed.ensures
-    ∙ ap (plus a.e a.sum) (long_negation (p m) (product_small m) ∙ ap neg_ℤ (product m) ∙ taken_way (a.x *ℤ a.y) c.before.if1.true)
+    c.add_signed.ensures
+    ∙ ap (plus a.e a.sum) (long_negation (p m) (product_small m) ∙ ap neg_ℤ (product m) ∙ taken_way (a.x *ℤ a.y) c.if-subtract.true)
 
-returns-2 : tie.Need-returns-2
+returns-2 : tie.Need-returns
 returns-2 c =
     let m = c.before.before in
     let a = (called m).args in
-    c.add-signed2.ensures
-    ∙ ap (plus a.e a.sum) (long_back (p m) (product_small m) ∙ product m ∙ added_way (a.x *ℤ a.y) c.before.if1.false)
+    c.add_signed-2.ensures
+    ∙ ap (plus a.e a.sum) (long_back (p m) (product_small m) ∙ product m ∙ added_way (a.x *ℤ a.y) c.if-subtract.false)
 
 pub accumulate_spec : {M : Type 1} → statement M
 accumulate_spec =
@@ -56,7 +56,7 @@ accumulate_spec =
     (λ c κs.
     let m = c.before in
     let q = (called m).requires in
-    ((shape q.0).element, (q.1.0, rw (long_negation (p m) (product_small m)) (omega (arith, mag_neg (p m), m.multiply.ensures.1)))))
+    ((shape q.0).element, (q.1.0, rw (long_negation (p m) (product_small m)) (omega (arith, mag_neg (p m), m.multiply-product.ensures.1)))))
     returns
     (λ c κs. let m = c.before in let q = (called m).requires in ((shape q.0).element, (q.1.0, rw (long_back (p m) (product_small m)) (product_small m))))
     returns-2)

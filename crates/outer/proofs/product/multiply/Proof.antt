@@ -18,16 +18,16 @@ module _ (s : tie.Start) where
   bytes e = small_as s.args.x s.args.y (are_bytes s.requires.0 e) s.requires.1
 
   halves : (s.args.e ≡ s.args.k → ⊥) → Small 2 s.args.x s.args.y
-  halves d = small_as s.args.x s.args.y (are_halves s.pre.0 d) s.pre.1
+  halves d = small_as s.args.x s.args.y (are_halves s.requires.0 d) s.requires.1
 
 pub multiply_spec : {M : Type 1} → statement M
 multiply_spec =
     tie.close
     (tie.spec
-    (λ c. let s = c.before in bytes_fit s.args.x s.args.y (bytes s c.if1.true))
-    (λ c. let s = c.before in bytes_cast s.args.x s.args.y (bytes s c.if1.true))
-    (λ c. let s = c.before in bytes_product s.args.x s.args.y (bytes s c.if1.true))
-    (λ c. let s = c.before in cast_fits s.args.x (halves s c.if1.false).0)
-    (λ c. let s = c.before in cast_fits s.args.y (halves s c.if1.false).1)
-    (λ c. let s = c.before in halves_fit s.args.x s.args.y (halves s c.if1.false))
-    (λ c. let s = c.before in halves_product s.args.x s.args.y (halves s c.if1.false)))
+    (λ c. let s = c.before in bytes_fit s.args.x s.args.y (bytes s c.if-e-k.true))
+    (λ c. let s = c.before in bytes_cast s.args.x s.args.y (bytes s c.if-e-k.true))
+    (λ c. let s = c.before in bytes_product s.args.x s.args.y (bytes s c.if-e-k.true))
+    (λ c. let s = c.before in cast_fits s.args.x (halves s c.if-e-k.false).0)
+    (λ c. let s = c.before in cast_fits s.args.y (halves s c.if-e-k.false).1)
+    (λ c. let s = c.before in halves_fit s.args.x s.args.y (halves s c.if-e-k.false))
+    (λ c. let s = c.before in halves_product s.args.x s.args.y (halves s c.if-e-k.false)))

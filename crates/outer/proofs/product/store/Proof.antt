@@ -17,12 +17,12 @@ pub store_spec : {M : Type 1} → statement M
 store_spec =
     tie.close
     (tie.spec
-    (λ c κs. omega (arith, c.before.before.before.requires.1.0, c.before.if1.true))
+    (λ c κs. omega (arith, c.requires.1.0, c.if-e-eq8.true))
     (λ c. search rules)
-    (λ c. stored_as _ _ _ _ c.before.before.before.before.if1.true c.before.before.store-u64.ensures)
-    (λ c. omega (arith, value_small c.before.before.before c.before.if1.false))
-    (λ c κs. let s = c.before.before.before in let e = is_four s.requires.0 c.before.if1.false in omega (arith, s.requires.1.0))
+    (λ c. stored_as _ _ _ _ c.if-e-eq8.true c.store_u64.ensures)
+    (λ c. omega (arith, value_small c.before.before.before c.if-e-eq8.false))
+    (λ c κs. let s = c.before.before.before in let e = is_four s.requires.0 c.if-e-eq8.false in omega (arith, s.requires.1.0))
     (λ c. search rules)
     (λ c.
     let i = c.before.before.before.before in
-    stored_as _ _ _ _ (is_four i.before.before.requires.0 i.if1.false) c.before.before.store-u32.ensures))
+    stored_as _ _ _ _ (is_four i.requires.0 i.if-e-eq8.false) c.store_u32.ensures))

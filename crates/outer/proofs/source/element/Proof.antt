@@ -8,21 +8,21 @@ use Rattle.outer.proofs.source.element.Tie as tie
 here : (s : tie.Start) → Spot s.args.vb s.args.register s.args.i s.args.b
 here s = spot s.requires.1.0.length_legal s.requires.1.0.register_in s.requires.0 s.requires.1.1
 
-abbrev start : tie.Else1 → tie.Start
+abbrev start : tie.Else-not-is_active → tie.Start
 start c = c.before.before.before.before
 
-returns : tie.Need-returns
+returns : tie.Need-returns-then-not-is_active
 returns c =
-    let a = c.before.before.before.before.args in
-    valued_off a.b a.vb a.z.now a.p.now a.o a.register a.i c.before.is-active.ensures c.if1.true
+    let a = c.args in
+    valued_off a.b a.vb a.z.now a.p.now a.o a.register a.i c.is_active.ensures c.if-not-is_active.true
 
-returns-2 : tie.Need-returns-2
+returns-2 : tie.Need-returns
 returns-2 c =
     let s = start c.before in
     let a = s.args in
-    valued_back s.pre.0
+    valued_back s.requires.0
     (valued_on a.b a.vb a.z.now a.p.now a.o a.register a.i
-    c.before.before.is-active.ensures c.before.if1.false c.read.ensures)
+    c.is_active.ensures c.if-not-is_active.false-raw c.read.ensures)
 
 pub element_spec : {M : Type 1} → statement M
 element_spec =

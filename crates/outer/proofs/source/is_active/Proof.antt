@@ -5,15 +5,15 @@ use Rattle.outer.proofs.Sizes.{BytePlace, byte_place}
 use Rattle.outer.proofs.source.is_active.Statement.{statement}
 use Rattle.outer.proofs.source.is_active.Tie as tie
 
-module _ (c : tie.After-struct-known) where
-  abbrev governed : tie.After-predication
+module _ (c : tie.After-struct_known-1) where
+  abbrev governed : tie.In-By-2
   governed = c.before.before
 
   abbrev called : tie.Start
   called = governed.before.before.before
 
-  bit-place : BytePlace 16 called.args.vb governed.predication.given.0.0.0 called.args.byte
-  bit-place = byte_place called.pre.0 (subst GoodPredication governed.predication.given.1 called.pre.2) called.pre.3
+  bit-place : BytePlace 16 called.args.vb governed.in-By.q.0 called.args.byte
+  bit-place = byte_place called.requires.0 (subst GoodPredication governed.in-By.is called.requires.2) called.requires.3
 
 pub is_active_spec : {M : Type 1} → statement M
 is_active_spec =

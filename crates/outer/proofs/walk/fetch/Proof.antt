@@ -7,37 +7,37 @@ use Rattle.outer.proofs.Arrays.{written}
 use Rattle.outer.proofs.walk.fetch.Statement.{statement}
 use Rattle.outer.proofs.walk.fetch.Tie as tie
 
-abbrev invariant-loop : tie.invariant-loop
+abbrev invariant-loop : tie.invariant-loop-j
 invariant-loop vb o register row z p x₀ k b j₀ x j =
     (j ≤ o.products) × (length x ≡ 8) × ((i : ℕ) → i < j → ValuedIn vb o z p o.first register (o.products * row + i) (signed_at x (2 * i)))
 
-abbrev decreases-loop : tie.decreases-loop
+abbrev decreases-loop : tie.decreases-loop-j
 decreases-loop vb o register row z p x₀ k b j₀ x j = o.products - j
 
-abbrev entry : tie.In-loop invariant-loop decreases-loop → tie.Start invariant-loop decreases-loop
+abbrev entry : tie.In-loop-j invariant-loop decreases-loop → tie.Start invariant-loop decreases-loop
 entry c = c.before.before.before.before.before
 
-here : (c : tie.In-loop invariant-loop decreases-loop) → let a = (entry c).args in Numbered a.o.element a.o.products a.vb a.row c.before.loop.j
-here c = let s = entry c in numbered s.pre.0 s.pre.1.0.length_legal s.pre.1.1.1 c.loop-test.true
+here : (c : tie.In-loop-j invariant-loop decreases-loop) → let a = (entry c).args in Numbered a.o.element a.o.products a.vb a.row c.loop-j.j
+here c = let s = entry c in numbered s.requires.0 s.requires.1.0.length_legal s.requires.1.1.1 c.loop-j-test.true
 
 element-requires : tie.Need-element-requires invariant-loop decreases-loop
 element-requires c κs =
     let s = entry c in
-    let r = s.pre.1.0 in
-    element_asks s.pre.0 r r.first s.pre.1.1.0 c.before.before.source-bytes.ensures s.pre.1.1.1 c.loop-test.true
+    let r = s.requires.1.0 in
+    element_asks s.requires.0 r r.first s.requires.1.1.0 c.source_bytes-b.ensures s.requires.1.1.1 c.loop-j-test.true
 
-loop-again : tie.Need-loop-preserved invariant-loop decreases-loop
+loop-again : tie.Need-loop-j-preserved invariant-loop decreases-loop
 loop-again c =
     let s = entry c.before in
     let a = s.args in
-    let l = c.before.before.loop in
-    let x = valued_as c.before.before.before.source-bytes.ensures c.element.ensures in (
+    let l = c.loop-j in
+    let x = valued_as c.source_bytes-b.ensures c.element.ensures in (
       omega arith,
       length-set l.x (2 * l.j) _ ∙ l.invariant.1,
       λ i h. written (λ v. ValuedIn a.vb a.o a.z.now a.p.now a.o.first a.register (a.o.products * a.row + i) v)
           l.x (2 * l.j) (2 * i) _
           (omega (arith, here c.before, l.invariant.1))
-          (λ e. let q : i ≡ l.j = omega arith in rw q (valued_back (shape s.pre.0).source x))
+          (λ e. let q : i ≡ l.j = omega arith in rw q (valued_back (shape s.requires.0).source x))
           (λ d. l.invariant.2 i (omega arith)),
     )
 
@@ -47,16 +47,16 @@ fetch_spec =
     (tie.spec
     invariant-loop
     decreases-loop
-    (λ c κs. c.before.before.requires.0)
-    (λ c. (omega arith, c.before.before.before.requires.1.1.2, λ i h. absurd (omega arith)))
+    (λ c κs. c.requires.0)
+    (λ c. (omega arith, c.requires.1.1.2, λ i h. absurd (omega arith)))
     (λ c. omega (arith, here c))
     (λ c. omega (arith, here c))
     element-requires
     (λ c. omega (arith, here c.before))
     (λ c. omega (arith, here c.before))
-    (λ c. omega (arith, here c.before, c.before.before.loop.invariant.1))
+    (λ c. omega (arith, here c.before, c.loop-j.invariant.1))
     (λ c. omega (arith, here c.before))
     (λ c. omega arith)
     loop-again
-    (λ c. c.before.loop.invariant.1 ∙ sym c.before.before.before.before.before.requires.1.1.2)
-    (λ c. let l = c.before.loop in record { long = l.invariant.1; each = λ j h. l.invariant.2 j (omega arith) }))
+    (λ c. c.loop-j.invariant.1 ∙ sym c.requires.1.1.2)
+    (λ c. let l = c.loop-j in record { long = l.invariant.1; each = λ j h. l.invariant.2 j (omega arith) }))

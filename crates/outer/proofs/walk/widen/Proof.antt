@@ -16,69 +16,69 @@ Is vb o register z p n v = Turned vb o z p register (o.products * (n % 64) + n /
 abbrev Filling : ℕ → OuterProduct → ℕ → List ℕ → List ℕ → ℕ → ℕ → List ℤ → Type 0
 Filling vb o register z p c j y = (length y ≡ 256) × ((n : ℕ) → n / 64 < o.products → Filled c j n → Is vb o register z p n (signed_at y n))
 
-abbrev invariant-loop2 : tie.invariant-loop2
+abbrev invariant-loop2 : tie.invariant-loop-j
 invariant-loop2 vb o register z p y₀ k b n c j₀ y j = (j ≤ o.products) × Filling vb o register z p c j y
 
-abbrev decreases-loop2 : tie.decreases-loop2
+abbrev decreases-loop2 : tie.decreases-loop-j
 decreases-loop2 vb o register z p y₀ k b n c j₀ y j = o.products - j
 
-abbrev invariant-loop : tie.invariant-loop
-invariant-loop vb o register z p y₀ k b n c₀ y c = (c ≤ vb / o.element) × Filling vb o register z p c 0 y
+abbrev invariant-loop : tie.invariant-loop-c
+invariant-loop vb o register z p y₀ k b n c₀ y c = (c ≤ vb / o.element-v) × Filling vb o register z p c 0 y
 
-abbrev decreases-loop : tie.decreases-loop
-decreases-loop vb o register z p y₀ k b n c₀ y c = vb / o.element - c
+abbrev decreases-loop : tie.decreases-loop-c
+decreases-loop vb o register z p y₀ k b n c₀ y c = vb / o.element-v - c
 
 abbrev Entry : Type 0
 Entry = tie.Start invariant-loop2 decreases-loop2 invariant-loop decreases-loop
 
-few : (s : Entry) → s.args.vb / s.args.o.element ≤ 64
-few s = (on_tile s.pre.0 s.pre.1.0).narrow
+few : (s : Entry) → s.args.vb / s.args.o.element-v ≤ 64
+few s = (on_tile s.requires.0 s.requires.1.0).narrow
 
-module _ (c : tie.In-loop2 invariant-loop2 decreases-loop2 invariant-loop decreases-loop) where
-  abbrev outer : tie.In-loop invariant-loop2 decreases-loop2 invariant-loop decreases-loop
+module _ (c : tie.In-loop-j invariant-loop2 decreases-loop2 invariant-loop decreases-loop) where
+  abbrev outer : tie.In-loop-c invariant-loop2 decreases-loop2 invariant-loop decreases-loop
   outer = c.before.before
 
   abbrev entry : Entry
   entry = outer.before.before.before.before.before.before
 
-  column_in : outer.before.loop.c < entry.args.vb / entry.args.o.element
-  column_in = omega (arith, outer.loop-test.taken, outer.before.before.columns.ensures)
+  column_in : outer.loop-c.c < entry.args.vb / entry.args.o.element-v
+  column_in = omega (arith, outer.loop-c-test.taken, outer.columns-n.ensures)
 
-  here : let a = entry.args in Numbered a.o.element a.o.products a.vb outer.before.loop.c c.before.loop2.j
-  here = numbered entry.pre.0 entry.pre.1.0.length_legal column_in c.loop2-test.true
+  here : let a = entry.args in Numbered a.o.element-v a.o.products a.vb outer.loop-c.c c.loop-j.j
+  here = numbered entry.requires.0 entry.requires.1.0.length_legal column_in c.loop-j-test.true
 
-element-requires : tie.Need-element-requires invariant-loop2 decreases-loop2 invariant-loop decreases-loop
+element-requires : tie.Need-element-v-requires invariant-loop2 decreases-loop2 invariant-loop decreases-loop
 element-requires c κs =
     let i = c.before in
     let s = entry i in
-    let r = s.pre.1.0 in
-    element_asks s.pre.0 r r.second s.pre.1.1.0 (outer i).before.before.before.source-bytes.ensures (column_in i) i.loop2-test.true
+    let r = s.requires.1.0 in
+    element_asks s.requires.0 r r.second s.requires.1.1.0 (outer i).before.before.before.source-bytes.ensures (column_in i) i.loop-j-test.true
 
 -- the element at hand
-module _ (c : tie.After-element invariant-loop2 decreases-loop2 invariant-loop decreases-loop) where
-  abbrev inner : tie.In-loop2 invariant-loop2 decreases-loop2 invariant-loop decreases-loop
+module _ (c : tie.After-element-v invariant-loop2 decreases-loop2 invariant-loop decreases-loop) where
+  abbrev inner : tie.In-loop-j invariant-loop2 decreases-loop2 invariant-loop decreases-loop
   inner = c.before.before
 
   valued : let a = (entry inner).args in ValuedIn a.vb a.o a.z.now a.p.now a.o.second a.register
-      (a.o.products * (outer inner).before.loop.c + inner.before.loop2.j) c.element.result
-  valued = valued_as (outer inner).before.before.before.source-bytes.ensures c.element.ensures
+      (a.o.products * (outer inner).before.loop.c + inner.loop-j.j) c.element-v.result
+  valued = valued_as (outer inner).before.before.before.source-bytes.ensures c.element-v.ensures
 
-  source : let o = (entry inner).args.o in ByteOrHalf (o.element / o.products)
+  source : let o = (entry inner).args.o in ByteOrHalf (o.element-v / o.products)
   source = (shape (entry inner).pre.0).source
 
 -- and as it is written
-turned : (c : tie.Joined1 invariant-loop2 decreases-loop2 invariant-loop decreases-loop) → let i = inner c.before in let a = (entry i).args in
-    Turned a.vb a.o a.z.now a.p.now a.register (a.o.products * (outer i).before.loop.c + i.before.loop2.j) (to_z w32 c.if1.y)
+turned : (c : tie.Joined-o invariant-loop2 decreases-loop2 invariant-loop decreases-loop) → let i = inner c.before in let a = (entry i).args in
+    Turned a.vb a.o a.z.now a.p.now a.register (a.o.products * (outer i).before.loop.c + i.loop-j.j) (to_z w32 c.if-o.y-bits)
 turned c =
     let e = c.before in
-    ⊎_elim (λ t. turned_taken (source e) (valued e) t.0.taken t.1) (λ t. turned_added (source e) (valued e) t.0.left t.1) c.if1.branch
+    ⊎_elim (λ t. turned_taken (source e) (valued e) t.0.taken t.1) (λ t. turned_added (source e) (valued e) t.0.left t.1) c.if-o.branch
 
-loop2-again : tie.Need-loop2-preserved invariant-loop2 decreases-loop2 invariant-loop decreases-loop
+loop2-again : tie.Need-loop-j-preserved invariant-loop2 decreases-loop2 invariant-loop decreases-loop
 loop2-again c =
     let i = inner c.before in
     let a = (entry i).args in
     let h = here i in
-    let l = i.before.loop2 in
+    let l = i.loop-j in
     let place = 64 * l.j + (outer i).before.loop.c in (
       omega arith,
       (
@@ -90,25 +90,25 @@ loop2-again c =
       ),
     )
 
-loop-again : tie.Need-loop-preserved invariant-loop2 decreases-loop2 invariant-loop decreases-loop
+loop-again : tie.Need-loop-c-preserved invariant-loop2 decreases-loop2 invariant-loop decreases-loop
 loop-again c =
-    let l = c.before.loop2 in
+    let l = c.loop-j in
     let s = c.before.before.before.before.before.before.before.before in
     let e : l.j ≡ s.args.o.products = omega arith in
     let f = rw e at l.invariant.1.1 in
     let i = c.before.before in
-    (omega (arith, i.loop-test.true, i.before.before.columns.ensures), (l.invariant.1.0, λ n k g. f n k (filled_column n k g)))
+    (omega (arith, i.loop-c-test.true, i.columns-n.ensures), (l.invariant.1.0, λ n k g. f n k (filled_column n k g)))
 
 returns : tie.Need-returns invariant-loop2 decreases-loop2 invariant-loop decreases-loop
 returns c =
-    let l = c.before.loop in
+    let l = c.loop-c in
     let s = c.before.before.before.before.before.before in
     record {
       long = l.invariant.1.0;
       each =
           λ d j h k.
           let n : d < 64 = omega (arith, few s) in
-          let r = l.invariant.1.1 (64 * j + d) (rw (plane_product j n) k) (inl (rw (plane_column j n) (omega (arith, c.before.before.columns.ensures)))) in
+          let r = l.invariant.1.1 (64 * j + d) (rw (plane_product j n) k) (inl (rw (plane_column j n) (omega (arith, c.columns-n.ensures)))) in
           rw (plane_column j n, plane_product j n) at r;
     }
 
@@ -120,14 +120,14 @@ widen_spec =
     decreases-loop2
     invariant-loop
     decreases-loop
-    (λ c κs. c.before.before.requires.0)
-    (λ c κs. (shape c.before.before.before.requires.0).element)
-    (λ c. (omega arith, (c.before.before.before.before.requires.1.1.1, λ n k f. absurd (filled_none n f))))
-    (λ c. (omega arith, c.before.loop.invariant.1))
+    (λ c κs. c.requires.0)
+    (λ c κs. (shape c.requires.0).element)
+    (λ c. (omega arith, (c.requires.1.1.1, λ n k f. absurd (filled_none n f))))
+    (λ c. (omega arith, c.loop-c.invariant.1))
     (λ c. omega (arith, here c.before))
     (λ c. omega (arith, here c.before))
     element-requires
-    (λ c. let e = c.before in negation_fits w32 e.element.result (omega (arith, (valued e).small, half_small (source e))))
+    (λ c. let e = c.before in negation_fits w32 e.element-v.result (omega (arith, (valued e).small, half_small (source e))))
     (λ c. omega (arith, here (inner c.before)))
     (λ c. omega (arith, here (inner c.before)))
     (λ c. omega (arith, here (inner c.before)))
@@ -135,8 +135,8 @@ widen_spec =
     (λ c. omega (arith, here (inner c.before)))
     (λ c. omega arith)
     loop2-again
-    (λ c. let n = c.before.before.before.before in omega (arith, few n.before.before.before.before, n.columns.ensures))
-    (λ c. omega (arith, c.before.before.loop-test.true, c.before.before.before.before.columns.ensures))
+    (λ c. let n = c.before.before.before.before in omega (arith, few n.before.before.before.before, n.columns-n.ensures))
+    (λ c. omega (arith, c.loop-c-test.true, c.columns-n.ensures))
     loop-again
-    (λ c. c.before.loop.invariant.1.0 ∙ sym c.before.before.before.before.before.before.requires.1.1.1)
+    (λ c. c.loop-c.invariant.1.0 ∙ sym c.requires.1.1.1)
     returns)
