@@ -83,8 +83,8 @@ read-y-requires c = record { byte_or_half = (shape c.requires.shaped).source; b_
 
 pub accumulate-requires : goal.accumulate-requires
 accumulate-requires c = record { shaped = c.requires.shaped; sum_bound = (c.requires.row_bound.3, 
-        (valued_back (shape c.requires.shaped).source (valued_on _ _ _ _ _ _ _ c.is_active.ensures c.if-not-is_active.false c.read-x.ensures)).small, 
-        (valued_back (shape c.requires.shaped).source (valued_on _ _ _ _ _ _ _ c.is_active-2.ensures c.if-not-is_active-2.false c.read-y.ensures)).small) }
+        (valued_back (shape c.requires.shaped).source (valued_on _ _ _ _ c.args.o.first _ _ c.is_active.ensures c.if-not-is_active.false c.read-x.ensures)).small, 
+        (valued_back (shape c.requires.shaped).source (valued_on _ _ _ _ c.args.o.second _ _ c.is_active-2.ensures c.if-not-is_active-2.false c.read-y.ensures)).small) }
 
 pub returns : goal.returns
 returns c =
