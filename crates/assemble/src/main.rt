@@ -8,9 +8,8 @@ ghost use Rattle.std.specs.Prelude.{◌≡◌};
 ghost use Rattle.checks.specs.Tally.{sum};
 ghost use Rattle.assemble.specs.Kernel.{lines, is_space, is_blank, is_comment, assembled, words_after, refused_after, count_over};
 
-use checks::{Input, one_if, plus};
+use checks::{Input, STDERR_FILENO, STDOUT_FILENO, one_if, plus};
 use isa::Refusal;
-use libc::{STDERR_FILENO, STDOUT_FILENO};
 use reader::Reading;
 
 // What comes of a line.
@@ -29,9 +28,9 @@ pub struct Counts {
     pub refused: u64,
 }
 
-fn main() {
+fn main(rt: HostRuntime) {
     let mut text = checks::input_room();
-    match checks::read_input(&mut text) {
+    match checks::read_input(&rt, &mut text) {
         Input::Bytes(n) => report(assemble(checks::first(&text, n))),
         Input::TooLong => {
             tell_number(b"the input has more bytes than ", checks::INPUT_ROOM as u64);

@@ -5,8 +5,8 @@
 ghost use Rattle.std.specs.Prelude.{◌≡◌, ◌+◌, ◌≤◌, length};
 ghost use Rattle.machine.specs.Lists.{most_words};
 
+use checks::STDOUT_FILENO;
 use isa::{Decoded, Instruction, Refusal};
-use libc::STDOUT_FILENO;
 use machine::{Bench, Outcome};
 use text::Printed;
 

@@ -7,7 +7,7 @@ use birdaghol::{
     birdaghol_encode_predicated, birdaghol_encode_quarter, birdaghol_encode_zero,
     birdaghol_execute, birdaghol_order_matters, birdaghol_print, birdaghol_read, birdaghol_run,
 };
-use libc::STDOUT_FILENO;
+use checks::STDOUT_FILENO;
 
 const SUMOPA: u32 = 0xA0A0_0000;
 

@@ -11,7 +11,9 @@ pub use stdin::{INPUT_ROOM, input_room, read_input};
 pub use stream::{generate, next};
 pub use text::{digit_of, field_end, first, hexadecimal_of, wide};
 
-// Where the programs write, by number.
+// What the programs read and write, by number.
+pub const STDIN_FILENO: i32 = 0;
+
 pub const STDOUT_FILENO: i32 = 1;
 
 pub const STDERR_FILENO: i32 = 2;

@@ -5,8 +5,7 @@
 
 ghost use Rattle.std.specs.Prelude.{◌≤◌, length};
 
-use checks::{Fill, Number, Outcome, Tally};
-use libc::{STDIN_FILENO, STDOUT_FILENO};
+use checks::{Fill, Number, Outcome, STDIN_FILENO, STDOUT_FILENO, Tally};
 use machine::Bench;
 
 const ALL_FEATURES: u32 = 15;

@@ -8,8 +8,9 @@ ghost use Rattle.disassembly.specs.Pieces.{lines_for, end_for, end_room, listed_
 ghost use Rattle.disassembly.specs.Claims.{room_for};
 ghost use Rattle.lister.specs.Reads.{most_read};
 
+use checks::{STDERR_FILENO, STDOUT_FILENO};
 use disassembly::{Advance, Place};
-use libc::{STDERR_FILENO, STDIN_FILENO, STDOUT_FILENO};
+use std::io::Read;
 use text::Printed;
 
 // Room for the lines of what is read at once, 4,096 bytes: 1,024 words.
@@ -22,12 +23,12 @@ pub enum Step {
     Over,
 }
 
-fn main() {
+fn main(rt: HostRuntime) {
     let mut room = lines_room();
     let mut place = disassembly::start();
     let mut reads = most_reads();
     while 0 < reads {
-        match read_and_list(place, &mut room) {
+        match read_and_list(&rt, place, &mut room) {
             Step::On(p) => {
                 place = p;
             }
@@ -54,16 +55,14 @@ fn most_reads() -> u64
 }
 
 // Reads once, and lists what came. A read that fails is no end.
-fn read_and_list(place: Place, room: &mut [u8]) -> Step
+fn read_and_list(rt: &HostRuntime, place: Place, room: &mut [u8]) -> Step
     requires { room_for most_read ≤ length room.old }
 {
     let mut piece = io::buffer();
-    let got = libc::read(STDIN_FILENO, &mut piece);
-    if got < 0 {
+    let Ok(n) = rt.stdin().read(&mut piece) else {
         tell(b"the input can't be read to its end, and is not listed whole\n");
         return Step::Over;
-    }
-    let n = io::count(got, &piece);
+    };
     if n == 0 {
         let end = put_end(place, room);
         write(checks::first(room, end));

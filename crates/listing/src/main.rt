@@ -6,8 +6,7 @@
 
 ghost use Rattle.std.specs.Prelude.{◌+◌, ◌≤◌};
 
-use checks::{one_if, part, plus};
-use libc::STDOUT_FILENO;
+use checks::{STDOUT_FILENO, one_if, part, plus};
 use reader::Reading;
 use text::Printed;
 

@@ -10,9 +10,8 @@ ghost use Rattle.machine.specs.Instructions.{is_outer};
 ghost use Rattle.pairs.specs.Order.{some_below, order_matters};
 ghost use Rattle.order.specs.Pairs.{word_at, paired_with, any_pair, is_fixed, any_fixed, count_in, verdict_of};
 
-use checks::{Input, part};
+use checks::{Input, STDERR_FILENO, STDOUT_FILENO, part};
 use isa::{Decoded, Instruction, Refusal};
-use libc::{STDERR_FILENO, STDOUT_FILENO};
 use text::Printed;
 
 // What is said of a list.
@@ -25,9 +24,9 @@ pub enum Verdict {
     AnyOrderBetween,
 }
 
-fn main() {
+fn main(rt: HostRuntime) {
     let mut room = checks::input_room();
-    match checks::read_input(&mut room) {
+    match checks::read_input(&rt, &mut room) {
         Input::Bytes(n) => {
             let bytes = checks::first(&room, n);
             pronounce(judge(bytes), bytes.len() / 4);

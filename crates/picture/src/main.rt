@@ -8,9 +8,8 @@ ghost use Rattle.capture.specs.Outcomes.{buffers, Roomy};
 ghost use Rattle.picture.specs.Images.{digit, separator, pixel, pixels, header, longest_image, Shows};
 
 use capture::Reading;
-use checks::Input;
+use checks::{Input, STDERR_FILENO, STDOUT_FILENO};
 use isa::Refusal;
-use libc::{STDERR_FILENO, STDOUT_FILENO};
 
 // The bytes of the header, those of a pixel, a number in three places and what stands behind it, and those of the largest image.
 const HEADER: usize = 15;
@@ -26,9 +25,9 @@ pub enum Shown {
     Refused(Refusal),
 }
 
-fn main() {
+fn main(rt: HostRuntime) {
     let mut input = checks::input_room();
-    match checks::read_input(&mut input) {
+    match checks::read_input(&rt, &mut input) {
         Input::Bytes(n) => show(checks::first(&input, n)),
         // No capture is as long as the room, and its first byte, which is the version, stands there.
         Input::TooLong => show(&input),
@@ -105,7 +104,7 @@ fn put_header(vb: usize, room: &mut [u8])
         b'P', b'2', b'\n', hundreds, tens, units, b' ', hundreds, tens, units, b'\n', b'2', b'5',
         b'5', b'\n',
     ];
-    bytes::copy(&text, room);
+    room[..15].copy_from_slice(&text);
 }
 
 // The pixels of ZA behind the header.

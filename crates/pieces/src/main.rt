@@ -5,9 +5,8 @@
 
 ghost use Rattle.std.specs.Prelude.{◌≡◌, ◌≤◌, length};
 
-use checks::{Input, part, plus};
+use checks::{Input, STDOUT_FILENO, part, plus};
 use disassembly::Place;
-use libc::STDOUT_FILENO;
 use text::Printed;
 
 // Room for the lines of 40,003 bytes in one piece.
@@ -33,9 +32,9 @@ pub struct Progress {
     pub taken: usize,
 }
 
-fn main() {
+fn main(rt: HostRuntime) {
     let mut input = checks::input_room();
-    match checks::read_input(&mut input) {
+    match checks::read_input(&rt, &mut input) {
         Input::Bytes(n) => list_cuts(checks::first(&input, n)),
         Input::TooLong => write(b"the input is too long\n"),
         Input::Unreadable => write(b"the input can't be read\n"),

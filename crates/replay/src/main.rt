@@ -12,9 +12,8 @@ ghost use Rattle.replay.specs.Replays.{Replays, told};
 ghost use Rattle.replay.specs.Changes.{changed_in};
 
 use capture::{Reading, Written};
-use checks::Input;
+use checks::{Input, STDERR_FILENO, STDOUT_FILENO};
 use isa::Refusal;
-use libc::{STDERR_FILENO, STDOUT_FILENO};
 use machine::{Bench, Ended, Outcome};
 use text::Printed;
 
@@ -30,9 +29,9 @@ pub enum Replayed {
     Refused(Refusal),
 }
 
-fn main() {
+fn main(rt: HostRuntime) {
     let mut input = checks::input_room();
-    match checks::read_input(&mut input) {
+    match checks::read_input(&rt, &mut input) {
         Input::Bytes(n) => replay(checks::first(&input, n)),
         // No capture is as long as the room, and its first byte, which is the version, stands there.
         Input::TooLong => replay(&input),

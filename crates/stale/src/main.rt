@@ -2,8 +2,7 @@
 // tile too few, the run stops at the word that would have added to old sums; with all of ZA cleared first, it ends the same.
 #![tactic(auto)]
 
-use checks::{Fill, part};
-use libc::STDOUT_FILENO;
+use checks::{Fill, STDOUT_FILENO, part};
 use machine::{Bench, Outcome};
 use text::Printed;
 

@@ -4,9 +4,8 @@
 
 ghost use Rattle.std.specs.Prelude.{◌≡◌, ◌≤◌, length};
 
-use checks::{Fill, differing, generate, next, one_if, part, plus};
+use checks::{Fill, STDOUT_FILENO, differing, generate, next, one_if, part, plus};
 use isa::Decoded;
-use libc::STDOUT_FILENO;
 use machine::Bench;
 
 const ALL_FEATURES: u32 = 15;

@@ -1,6 +1,8 @@
 // Figures: each is printed with its name, compared with what was expected, and counted.
 use crate::bench::Case;
-use libc::STDOUT_FILENO;
+
+// Where figures are printed.
+const STDOUT_FILENO: i32 = 1;
 
 // How many figures there were, and how many were as expected.
 #[derive(Clone, Copy)]

@@ -11,53 +11,62 @@ mod tally;
 mod times;
 
 use cases::{CASES, Kind};
-use libc::STDOUT_FILENO;
+use checks::STDOUT_FILENO;
 use outer::OuterProduct;
 use tally::{Tally, added, write_tally};
 
-fn main() {
-    let short = tally_at(16);
-    let long = tally_at(256);
+fn main(rt: HostRuntime) {
+    let short = tally_at(&rt, 16);
+    let long = tally_at(&rt, 256);
     io::write_all(STDOUT_FILENO, b"in all");
     write_tally(added(short, long));
 }
 
 // Both families.
-fn tally_at(vb: usize) -> Tally
+fn tally_at(rt: &HostRuntime, vb: usize) -> Tally
     requires { legal vb ≡ true }
 {
-    let predicated = tally_family(vb, false);
-    let quarter = tally_family(vb, true);
+    let predicated = tally_family(rt, vb, false);
+    let quarter = tally_family(rt, vb, true);
     added(predicated, quarter)
 }
 
 // Every shape that there is.
-fn tally_family(vb: usize, quarter: bool) -> Tally
+fn tally_family(rt: &HostRuntime, vb: usize, quarter: bool) -> Tally
     requires { legal vb ≡ true }
 {
-    let bytes = tally_of(Kind {
-        vb,
-        element: 4,
-        products: 4,
-        quarter,
-    });
-    let halves = tally_of(Kind {
-        vb,
-        element: 8,
-        products: 4,
-        quarter,
-    });
-    let two_way = tally_of(Kind {
-        vb,
-        element: 4,
-        products: 2,
-        quarter,
-    });
+    let bytes = tally_of(
+        rt,
+        Kind {
+            vb,
+            element: 4,
+            products: 4,
+            quarter,
+        },
+    );
+    let halves = tally_of(
+        rt,
+        Kind {
+            vb,
+            element: 8,
+            products: 4,
+            quarter,
+        },
+    );
+    let two_way = tally_of(
+        rt,
+        Kind {
+            vb,
+            element: 4,
+            products: 2,
+            quarter,
+        },
+    );
     added(added(bytes, halves), two_way)
 }
 
 // Makes room for Z, P and ZA: for either walk, and as it begins.
-fn tally_of(kind: Kind) -> Tally
+fn tally_of(rt: &HostRuntime, kind: Kind) -> Tally
     requires { GoodKind kind }
 {
     let mut z = io::large_buffer();
@@ -68,6 +77,7 @@ fn tally_of(kind: Kind) -> Tally
     let vb = kind.vb;
     let size = vb * vb;
     let t = tally_cases(
+        rt,
         kind,
         &mut z[..32 * vb],
         &mut p[..2 * vb],
@@ -81,6 +91,7 @@ fn tally_of(kind: Kind) -> Tally
 }
 
 fn tally_cases(
+    rt: &HostRuntime,
     kind: Kind,
     z: &mut [u8],
     p: &mut [u8],
@@ -92,12 +103,13 @@ fn tally_cases(
 {
     let mut t = tally::none();
     for n in 0..CASES {
-        t = added(t, tally_case(kind, n, z, p, za, plain, start));
+        t = added(t, tally_case(rt, kind, n, z, p, za, plain, start));
     }
     t
 }
 
 fn tally_case(
+    rt: &HostRuntime,
     kind: Kind,
     n: u32,
     z: &mut [u8],
@@ -110,11 +122,12 @@ fn tally_case(
     ensures { Room kind z.new p.new za.new plain.new start.new }
 {
     let o = cases::draw(kind, n, z, p, za, plain, start);
-    tally_update(kind, n, o, z, p, za, plain, start)
+    tally_update(rt, kind, n, o, z, p, za, plain, start)
 }
 
 // Compares an update by the two walks, and takes their times if the case is the one for it.
 fn tally_update(
+    rt: &HostRuntime,
     kind: Kind,
     n: u32,
     o: OuterProduct,
@@ -128,7 +141,7 @@ fn tally_update(
     requires plain_len { (length plain.old ≡ length za.old) × (length start.now ≡ length za.old) }
 {
     let t = compare(kind.vb, o, z, p, za, plain, start);
-    times::take_times(kind, n, o, z, p, za, plain);
+    times::take_times(rt, kind, n, o, z, p, za, plain);
     t
 }
 

@@ -1,6 +1,5 @@
 // Counts of updates and of bytes.
-use checks::{differing, part, plus};
-use libc::STDOUT_FILENO;
+use checks::{STDOUT_FILENO, differing, part, plus};
 
 // How many updates were compared, how many bytes of ZA they changed, and in how many the two walks differ.
 #[derive(Clone, Copy)]

@@ -4,13 +4,15 @@ ghost use Rattle.walks.specs.Room.{Updatable};
 
 use crate::cases;
 use crate::cases::Kind;
-use libc::STDERR_FILENO;
+use checks::STDERR_FILENO;
 use outer::OuterProduct;
+use std::time::CpuClock;
 
 const ROUNDS: u32 = 40;
 
 // Repeats the timed case by both walks, and writes the time that an update takes in the best round of each.
 pub(crate) fn take_times(
+    rt: &HostRuntime,
     kind: Kind,
     n: u32,
     o: OuterProduct,
@@ -27,8 +29,8 @@ pub(crate) fn take_times(
     }
     let vb = kind.vb;
     let updates = round_updates(vb);
-    let time = best(updates, false, vb, o, z, p, za);
-    let plain_time = best(updates, true, vb, o, z, p, plain);
+    let time = best(rt, updates, false, vb, o, z, p, za);
+    let plain_time = best(rt, updates, true, vb, o, z, p, plain);
     cases::write_kind(STDERR_FILENO, kind);
     io::write_all(STDERR_FILENO, b": update ");
     write_time(time, updates);
@@ -58,6 +60,7 @@ fn write_time(microseconds: u64, updates: u64)
 
 // The microseconds of the best round.
 fn best(
+    rt: &HostRuntime,
     updates: u64,
     plainly: bool,
     vb: usize,
@@ -68,14 +71,15 @@ fn best(
 ) -> u64
     requires { Updatable vb o z.now p.now za.old }
 {
-    let mut least = round(updates, plainly, vb, o, z, p, za);
+    let mut least = round(rt, updates, plainly, vb, o, z, p, za);
     for _ in 1..ROUNDS {
-        least = lesser(least, round(updates, plainly, vb, o, z, p, za));
+        least = lesser(least, round(rt, updates, plainly, vb, o, z, p, za));
     }
     least
 }
 
 fn round(
+    rt: &HostRuntime,
     updates: u64,
     plainly: bool,
     vb: usize,
@@ -86,17 +90,24 @@ fn round(
 ) -> u64
     requires { Updatable vb o z.now p.now za.old }
 {
-    let begun = microseconds();
+    let begun = microseconds(rt);
     for _ in 0..updates {
         cases::walk(plainly, vb, o, z, p, za);
     }
-    std::num::wrapping_sub_u64(microseconds(), begun)
+    std::num::wrapping_sub_u64(microseconds(rt), begun)
 }
 
 // The processor time so far, 0 if it can't be had.
-fn microseconds() -> u64 {
-    let t = libc::clock();
-    if t < 0 { 0 } else { t as u64 }
+fn microseconds(rt: &HostRuntime) -> u64 {
+    match rt.process_cpu_time() {
+        Ok(t) => {
+            let seconds = t.as_secs();
+            seconds
+                .wrapping_mul(1_000_000)
+                .wrapping_add(t.subsec_micros() as u64)
+        }
+        Err(_) => 0,
+    }
 }
 
 fn lesser(a: u64, b: u64) -> u64 {

@@ -3,9 +3,8 @@
 // Then tells how many of its words miss which features where none is on.
 #![tactic(auto)]
 
-use checks::{Number, Outcome, Tally};
+use checks::{Number, Outcome, STDIN_FILENO, STDOUT_FILENO, Tally};
 use isa::Refusal;
-use libc::{STDIN_FILENO, STDOUT_FILENO};
 use reader::Reading;
 use refusals::Sums;
 use text::Printed;
