@@ -33,14 +33,14 @@ module _ (B vb : ℕ) (z p : List ℕ) (o : Operand) (register e : ℕ) where
   active_byte Unpredicated = refl
   active_byte (By q) = rw mul-one
 
-  pub valued_off : {a : Bool} → a ≡ active 1 vb p o.predication (e * B) → not a ≡ true → Valued B vb z p o register e (pos 0)
+  pub valued_off : {a : Bool} → a ≡ active 1 vb p o.predication (e * B) → a ≡ false → Valued B vb z p o register e (pos 0)
   unfolding value_of
-  valued_off {a} q t = record { value = rw (← active_byte o.predication, ← q, not-true a t); small = pow_pos B }
+  valued_off {a} q t = record { value = rw (← active_byte o.predication, ← q, t); small = pow_pos B }
 
-  pub valued_on : {a : Bool} {x : ℤ} → a ≡ active 1 vb p o.predication (e * B) → not a ≡ false
+  pub valued_on : {a : Bool} {x : ℤ} → a ≡ active 1 vb p o.predication (e * B) → a ≡ true
       → Reads B o.unsigned (word B (at z) (register * vb + e * B)) x → Valued B vb z p o register e x
   unfolding value_of
-  valued_on {a} q t r = record { value = rw (← active_byte o.predication, ← q, not-false a t) r.0; small = r.1 }
+  valued_on {a} q t r = record { value = rw (← active_byte o.predication, ← q, t) r.0; small = r.1 }
 
 pub valued_back : {B vb : ℕ} {z p : List ℕ} {o : Operand} {register e : ℕ} {x : ℤ} → ByteOrHalf B → Valued B vb z p o register e x
     → Valued B vb z p o register e (to_z w32 (of_z w32 x))

@@ -1,9 +1,15 @@
 -- `outer::plain::update_plainly` meets its contract: after the rows and columns walked, ZA has their elements' products added.
 -- Assumes nothing.
-use Rattle.std.proofs.Common.{◌≡◌, ◌+◌, ◌-◌, ◌*◌, ◌/◌, ◌≤◌}
+use Rattle.std.proofs.Common.{◌≡◌, ◌+◌, ◌-◌, ◌*◌, ◌/◌, ◌≤◌, ℕ, List}
 use Rattle.storage.specs.Modulo.{plus}
-use Rattle.outer.specs.Products.{directed_product, sum}
+use Rattle.outer.specs.declared.OuterProduct.{OuterProduct}
+use Rattle.outer.specs.Products.{directed_product, sum, sums}
+use Rattle.outer.proofs.Progress.{Since}
 use Rattle.outer.proofs.plain.update_plainly.Given as goal
+
+-- elements a to b have their products added
+abbrev Walked : ℕ → OuterProduct → List ℕ → List ℕ → ℕ → ℕ → List ℕ → List ℕ → Type 0
+Walked vb o z p a b za₀ za = Since o.element vb o.tile.0 (sums vb o z p) a b za₀ za
 
 abbrev pub invariant-loop-k : goal.invariant-loop-k
 invariant-loop-k l =

@@ -22,7 +22,7 @@ returns-2 c =
     let a = s.args in
     valued_back s.requires.0
     (valued_on a.b a.vb a.z.now a.p.now a.o a.register a.i
-    c.is_active.ensures c.if-not-is_active.false-raw c.read.ensures)
+    c.is_active.ensures c.if-not-is_active.false c.read.ensures)
 
 pub element_spec : {M : Type 1} → statement M
 element_spec =
