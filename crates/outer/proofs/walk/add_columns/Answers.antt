@@ -157,7 +157,7 @@ loop-c-preserved c =
       omega arith,
       rw c.store.ensures
           (since_store (on_tile q.shaped q.part) c.loop-c.invariant.1 q.part.row_in
-              (column (goal.at.loop-c-preserved c).In-loop-c) refl (l.invariant.1 ∙ rw (e, c.load-sum.ensures.0))),
+          (column (goal.at.loop-c-preserved c).In-loop-c) refl (l.invariant.1 ∙ rw (e, c.load-sum.ensures.0))),
     )
 
 pub shape_of-za : goal.shape_of-za

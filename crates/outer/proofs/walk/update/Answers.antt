@@ -1,6 +1,6 @@
 -- `outer::walk::update` meets its contract: the rows before `row` have their products added, and the planes have the second
 -- source's register that they are said to hold. Assumes nothing.
-use Rattle.std.proofs.Common.{◌≡◌, ℕ, ◌*◌, ◌/◌, ◌<◌, sym, refl, ◌∙◌, subst, arith}
+use Rattle.std.proofs.Common.{◌≡◌, ℕ, ◌/◌, ◌<◌, sym, refl, ◌∙◌, subst, arith}
 use Rattle.outer.specs.Products.{register_at}
 use Rattle.outer.specs.Walks.{Planes}
 use Rattle.outer.proofs.Progress.{since_as, lent, since_size, since_none, since_then, since_all}

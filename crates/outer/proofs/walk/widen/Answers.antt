@@ -1,6 +1,6 @@
 -- `outer::walk::widen` meets its contract: the columns before c have their elements, and column c has j. Assumes nothing.
-use Rattle.std.proofs.Common.{◌≡◌, ℕ, ◌+◌, ◌*◌, ◌/◌, ◌<◌, ◌≤◌, sym, refl, ◌∙◌, inl, arith, length-set, w32, to_z}
-use Rattle.outer.specs.Walks.{ByteOrHalf, ValuedIn, Turned}
+use Rattle.std.proofs.Common.{◌≡◌, ◌+◌, ◌*◌, ◌/◌, ◌<◌, sym, refl, ◌∙◌, inl, arith, length-set, w32, to_z}
+use Rattle.outer.specs.Walks.{Turned}
 use Rattle.outer.proofs.Shapes.{shape, on_tile, Numbered, numbered, element_asks}
 use Rattle.outer.proofs.Signed.{half_small, negation_fits}
 use Rattle.outer.proofs.Elements.{valued_as, turned_taken, turned_added}
@@ -38,7 +38,7 @@ pub element-v-requires : goal.element-v-requires
 element-v-requires c =
     let q = c.requires in
     let t = element_asks q.shaped q.ready q.ready.second q.register_bound.0 c.source_bytes-b.ensures
-        (column_in (goal.at.element-v-requires c).In-loop-j) c.loop-j-test.true in
+    (column_in (goal.at.element-v-requires c).In-loop-j) c.loop-j-test.true in
     record { byte_or_half = t.0; sources = t.1.0; b_bound = t.1.1 }
 
 pub overflow_sub-y : goal.overflow_sub-y
@@ -70,10 +70,10 @@ loop-j-preserved c =
     let u = (shape c.requires.shaped).source in
     let v = valued_as c.source_bytes-b.ensures c.element-v.ensures in
     let turned : Turned a.vb a.o a.z.now a.p.now a.register (a.o.products * c.loop-c.c + l.j) (to_z w32 c.if-o.y-bits) =
-        elim c.if-o.branch [
-          then-o w ↦ rw w.y-is (turned_taken u v w.if-o.true refl)
-        | else-o w ↦ rw w.y-is (turned_added u v w.if-o.false refl)
-        ] in (
+    elim c.if-o.branch [
+      | then-o w ↦ rw w.y-is (turned_taken u v w.if-o.true refl)
+      | else-o w ↦ rw w.y-is (turned_added u v w.if-o.false refl)
+    ] in (
       omega arith,
       (
         length-set l.y place _ ∙ l.invariant.1.0,
