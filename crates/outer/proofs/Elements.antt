@@ -1,8 +1,7 @@
 -- Source elements that count as 0 where they are not active: their products are an outer product's. Assumes nothing.
-use Rattle.std.proofs.Common.{◌≡◌, ℕ, ◌+◌, ◌*◌, ◌/◌, ◌^◌, ◌<◌, ◌≤◌, Bool, true, false, cond, not, ◌&&◌, List, ℤ, pos, ◌-ℤ◌, ◌*ℤ◌, neg_ℤ, sym, refl, ap, ◌∙◌, ap₂, mul-one, arith, w32, to_z, of_z}
+use Rattle.std.proofs.Common.{◌≡◌, ℕ, ◌+◌, ◌*◌, ◌/◌, ◌^◌, ◌<◌, ◌≤◌, Bool, true, false, cond, ◌&&◌, List, ℤ, pos, ◌-ℤ◌, ◌*ℤ◌, neg_ℤ, sym, refl, ap, ◌∙◌, ap₂, mul-one, arith, w32, to_z, of_z}
 use lib.IntN.{zero-*ℤ, *ℤ-zero}
 use lib.Signed.{mag}
-use borrow.Author.Tests.{not-true, not-false}
 use Rattle.storage.specs.Bytes.{Store, at, word}
 use Rattle.storage.specs.Modulo.{plus}
 use Rattle.storage.proofs.Modulo.{pow_pos, plus_nil}

@@ -14,31 +14,31 @@ use Rattle.machine.proofs.executor.execute.Tie as tie
 abbrev machine : tie.Start → Machine
 machine s = on s.args.bench s.args.z.now s.args.p.now s.args.za.now
 
-abbrev start : tie.After-check-bench → tie.Start
+abbrev start : tie.After-check_bench → tie.Start
 start c = c.before.before.before.before
 
 -- an answer that is the definition's has its number and its sum
 answers : {A : Type 0} {r a : Outcome} → r ≡ a → A → (r ≡ a) × (A × ((outcome_number r ≡ outcome_number a) × (outcome_missing r ≡ outcome_missing a)))
 answers e left = (e, (left, (ap outcome_number e, ap outcome_missing e)))
 
-passed : (c : tie.After-enum-told) → first_failure (machine_tests (machine (start c.before.before))) ≡ none
-passed c = outcome_done _ (sym c.enum_told.given.1 ∙ c.before.before.check-bench.ensures)
+passed : (c : tie.In-Done) → first_failure (machine_tests (machine (start c.before.before))) ≡ none
+passed c = outcome_done _ (sym c.in-Done.is ∙ c.check_bench.ensures)
 
-returns : tie.Need-returns
+returns : tie.Need-returns-in-Refused
 returns c =
     let s = start c.before.before.before in
-    let h = outcome_refused _ _ (sym c.before.r.given.1 ∙ c.before.before.before.check-bench.ensures) in
+    let h = outcome_refused _ _ (sym c.in-Refused.is ∙ c.check_bench.ensures) in
     let f = refused_by_bench (machine s) s.args.word _ h in
-    answers (sym (ap outcome f)) (sym (ap (λ (m : Machine). m.za) (after_by (machine s) s.args.word (some _) f)))
+    answers (sym (ap outcome f)) (sym (ap (λ (m : Machine). m.za-1) (after_by (machine s) s.args.word (some _) f)))
 
-returns-2 : tie.Need-returns-2
+returns-2 : tie.Need-returns-in-Done
 returns-2 c =
     let t = c.before.before.before.before in
     let s = start t.before.before in
     let f = refused_by_word (machine s) s.args.word (passed t) in
-    let e = c.before.before.execute-word.ensures in
+    let e = c.execute_word.ensures in
     let r = e.0 ∙ sym (ap outcome f) in
-    answers r (e.1 ∙ sym (ap (λ (m : Machine). m.za) (after_by (machine s) s.args.word _ f)))
+    answers r (e.1 ∙ sym (ap (λ (m : Machine). m.za-1) (after_by (machine s) s.args.word _ f)))
 
 pub execute_spec : {M : Type 1} → statement M
 execute_spec =

@@ -28,32 +28,32 @@ last s = cleared_test s.args.bench.vb (masked s.args.cleared) (describe s.args.w
 abbrev left : tie.Start → Option Refusal → Option Instruction → List ℕ
 left s o d = (unless o (machine s) (effect (machine s) d)).za
 
-abbrev start : tie.After-i → tie.Start
+abbrev start : tie.In-Accepted-2 → tie.Start
 start c = c.before.before.before.before.before.before
 
-admitted : (c : tie.After-i) → (let s = start c in
-    (first_failure (next_tests s.args.bench (masked s.args.cleared) s.args.word) ≡ none) × (describe s.args.word ≡ some c.i.given.0.0))
+admitted : (c : tie.In-Accepted-2) → (let s = start c in
+    (first_failure (next_tests s.args.bench (masked s.args.cleared) s.args.word) ≡ none) × (describe s.args.word ≡ some c.in-Accepted.i))
 admitted c =
     let s = start c in
-    admit_accepted s.args.bench s.args.word (last s) _ (sym c.i.given.1 ∙ c.before.before.admit-next.ensures)
+    admit_accepted s.args.bench s.args.word (last s) _ (sym c.in-Accepted.is ∙ c.admit_next.ensures)
 
 perform-requires : tie.Need-perform-requires
 perform-requires c κs =
     let i = c.before.before in
     ((start i).requires, (described_is _ _ (search rules) (admitted i).1).0)
 
-returns : tie.Need-returns
+returns : tie.Need-returns-in-Refused
 returns c =
     let s = c.before.before.before.before.before.before.before in
-    let a = c.before.before.before.admit-next.ensures in
-    let f = admit_refused s.args.bench s.args.word (last s) _ (sym c.before.r.given.1 ∙ a) in
-    (sym c.before.r.given.1 ∙ a, sym (ap (λ o. left s o (describe s.args.word)) f))
+    let a = c.admit_next.ensures in
+    let f = admit_refused s.args.bench s.args.word (last s) _ (sym c.in-Refused.is ∙ a) in
+    (sym c.in-Refused.is ∙ a, sym (ap (λ o. left s o (describe s.args.word)) f))
 
-returns-2 : tie.Need-returns-2
+returns-2 : tie.Need-returns-in-Accepted
 returns-2 c =
     let i = c.before.before.before.before.before in
     let (f, d) = admitted i in
-    (sym i.i.given.1 ∙ i.before.before.admit-next.ensures, c.before.before.perform.ensures ∙ sym (ap₂ (left (start i)) f d))
+    (sym i.in-Accepted.is ∙ i.admit_next.ensures, c.perform.ensures ∙ sym (ap₂ (left (start i)) f d))
 
 pub execute_next_spec : {M : Type 1} → statement M
 execute_next_spec =

@@ -18,44 +18,44 @@ passes s = machine_passes (machine s) s.requires.0
 update-requires : tie.Need-update-requires
 update-requires c κs =
     let i = c.before.before.before in
-    let g = i.i.given.0 in
+    let g = i.i-1.given.0 in
     let s = i.before.before.before.before.before in
-    let (h, r) = predicated_ready (machine s) (passes s) g.0 g.1.0 _ _ _ _ (sym (ap in_range i.i.given.1) ∙ s.requires.1) in
-    rw c.before.predicated-outer.ensures (h, (r, (passes s).za_sized))
+    let (h, r) = predicated_ready (machine s) (passes s) g.0 g.1.0 _ _ _ _ (sym (ap in_range i.in-Predicated.is) ∙ s.requires.1) in
+    rw c.predicated_outer-o.ensures (h, (r, (passes s).za_sized))
 
-quarter-outer-requires : tie.Need-quarter-outer-requires
+quarter-outer-requires : tie.Need-quarter_outer-o-requires
 quarter-outer-requires c κs =
     let i = c.before in
-    sym (ap in_range i.i2.given.1) ∙ i.before.before.before.before.before.requires.1
+    sym (ap in_range i.in-Quarter.is) ∙ i.requires.1
 
-update-requires-2 : tie.Need-update-requires-2
+update-requires-2 : tie.Need-update-requires-in-Quarter
 update-requires-2 c κs =
     let i = c.before.before.before in
-    let g = i.i2.given.0 in
+    let g = i.i-in-Quarter-1.given.0 in
     let s = i.before.before.before.before.before in
     let (h, r) =
-    quarter_ready (machine s) (passes s) g.0 g.1.0 g.1.1.0 g.1.1.1.0 (sym (ap in_range i.i2.given.1) ∙ s.requires.1) in
-    rw c.before.quarter-outer.ensures (h, (r, (passes s).za_sized))
+    quarter_ready (machine s) (passes s) g.0 g.1.0 g.1.1.0 g.1.1.1.0 (sym (ap in_range i.in-Quarter.is) ∙ s.requires.1) in
+    rw c.quarter_outer-o.ensures (h, (r, (passes s).za_sized))
 
-clear-tiles-requires : tie.Need-clear-tiles-requires
+clear-tiles-requires : tie.Need-clear_tiles-requires
 clear-tiles-requires c κs =
     let s = c.before.before.before.before.before.before.before in
     ((passes s).length_legal, (passes s).za_sized)
 
-returns : tie.Need-returns
+returns : tie.Need-returns-in-Predicated
 returns c =
     let u = c.before.before in
-    rw u.before.before.before.before.i.given.1 (rw u.before.before.predicated-outer.ensures at u.update.ensures)
+    rw u.in-Predicated.is (rw u.predicated_outer-o.ensures at u.update.ensures)
 
-returns-2 : tie.Need-returns-2
+returns-2 : tie.Need-returns-in-Quarter
 returns-2 c =
     let u = c.before.before in
-    rw u.before.before.before.before.i2.given.1 (rw u.before.before.quarter-outer.ensures at u.update2.ensures)
+    rw u.in-Quarter.is (rw u.quarter_outer-o.ensures at u.update-in-Quarter.ensures)
 
-returns-3 : tie.Need-returns-3
+returns-3 : tie.Need-returns-in-Zero
 returns-3 c =
     let u = c.before.before in
-    rw u.before.before.before.i3.given.1 u.clear-tiles.ensures
+    rw u.in-Zero.is u.clear_tiles.ensures
 
 pub perform_spec : {M : Type 1} → statement M
 perform_spec =

@@ -9,19 +9,19 @@ use borrow.Author.Rules.{rules}
 use Rattle.machine.proofs.lists.check_run.Statement.{statement}
 use Rattle.machine.proofs.lists.check_run.Tie as tie
 
-passed : (c : tie.After-enum-told) → (let a = c.before.before.before.args in first_failure (bench_tests a.bench a.z a.p a.za) ≡ none)
-passed c = outcome_done _ (sym c.enum_told.given.1 ∙ c.before.before.check-bench.ensures)
+passed : (c : tie.In-Done) → (let a = c.args in first_failure (bench_tests a.bench a.z a.p a.za) ≡ none)
+passed c = outcome_done _ (sym c.in-Done.is ∙ c.check_bench.ensures)
 
-returns : tie.Need-returns
-returns c = let a = c.before.before.before.before.args in start-answered a.bench a.z a.p a.za a.words (sym (ap outcome (start_too_long a.bench a.z a.p a.za a.words (passed c.before) c.if1.true)))
+returns : tie.Need-returns-then-words-gt-MOST_WORDS
+returns c = let a = c.args in start-answered a.bench a.z a.p a.za a.words (sym (ap outcome (start_too_long a.bench a.z a.p a.za a.words (passed c.before) c.if-words-gt-MOST_WORDS.true)))
 
-returns-2 : tie.Need-returns-2
+returns-2 : tie.Need-returns-in-Refused
 returns-2 c =
-    let a = c.before.before.before.before.args in
-    start-answered a.bench a.z a.p a.za a.words (sym (ap outcome (start_refused a.bench a.z a.p a.za a.words _ (outcome_refused _ _ (sym c.before.r.given.1 ∙ c.before.before.before.check-bench.ensures)))))
+    let a = c.args in
+    start-answered a.bench a.z a.p a.za a.words (sym (ap outcome (start_refused a.bench a.z a.p a.za a.words _ (outcome_refused _ _ (sym c.in-Refused.is ∙ c.check_bench.ensures)))))
 
-returns-3 : tie.Need-returns-3
-returns-3 c = let a = c.before.before.before.before.args in start-answered a.bench a.z a.p a.za a.words (sym (ap outcome (start_none a.bench a.z a.p a.za a.words (passed c.before) c.if1.false)))
+returns-3 : tie.Need-returns-else-words-gt-MOST_WORDS
+returns-3 c = let a = c.args in start-answered a.bench a.z a.p a.za a.words (sym (ap outcome (start_none a.bench a.z a.p a.za a.words (passed c.before) c.if-words-gt-MOST_WORDS.false)))
 
 pub check_run_spec : {M : Type 1} → statement M
 check_run_spec =

@@ -10,21 +10,21 @@ use borrow.Author.Rules.{rules}
 use Rattle.machine.proofs.lists.run.Statement.{statement}
 use Rattle.machine.proofs.lists.run.Tie as tie
 
-passed : (c : tie.After-enum-told) → (let a = c.before.before.before.before.before.before.before.args in
-    first_failure (run_tests (on a.bench a.z.now a.p.now a.za.now) a.words.now) ≡ none)
-passed c = outcome_done _ (sym c.enum_told.given.1 ∙ c.before.before.check-run.ensures.0)
+passed : (c : tie.In-Done) → (let a = c.args in
+    first_failure (run_tests (on a.bench a.z.now a.p.now a.za-1.now) a.words.now) ≡ none)
+passed c = outcome_done _ (sym c.in-Done.is ∙ c.check_run.ensures.answer)
 
-run-words-requires : tie.Need-run-words-requires
+run-words-requires : tie.Need-run_words-requires
 run-words-requires c κs =
-    let a = c.before.before.before.before.before.before.before.before.args in
-    run_bench_passed (on a.bench a.z.now a.p.now a.za.now) a.words.now (passed c.before)
+    let a = c.args in
+    run_bench_passed (on a.bench a.z.now a.p.now a.za-1.now) a.words.now (passed c.before)
 
-returns : tie.Need-returns
-returns c = run_unbegun _ _ _ (outcome_refused _ _ (sym c.before.r.given.1 ∙ c.before.before.before.check-run.ensures.0))
+returns : tie.Need-returns-in-Refused
+returns c = run_unbegun _ _ _ (outcome_refused _ _ (sym c.in-Refused.is ∙ c.check_run.ensures.answer))
 
-returns-2 : tie.Need-returns-2
+returns-2 : tie.Need-returns-in-Done
 returns-2 c =
-    let e = c.before.before.run-words.ensures in
+    let e = c.run_words.ensures in
     run_words-played _ _ (passed c.before.before.before.before) _ _ e.0 e.1
 
 pub run_spec : {M : Type 1} → statement M

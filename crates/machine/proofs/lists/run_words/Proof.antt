@@ -21,64 +21,64 @@ use Rattle.machine.proofs.Runs.{by_mask, nothing_cleared, executed_next, Running
 use Rattle.machine.proofs.lists.run_words.Statement.{statement}
 use Rattle.machine.proofs.lists.run_words.Tie as tie
 
-abbrev invariant-loop : tie.invariant-loop
+abbrev invariant-loop : tie.invariant-loop-i
 invariant-loop bench z p za₀ words cleared₀ i₀ za cleared i = Running (at_start (on bench z p za₀)) words (by_mask (on bench z p za) cleared) i
 
-abbrev decreases-loop : tie.decreases-loop
+abbrev decreases-loop : tie.decreases-loop-i
 decreases-loop bench z p za₀ words cleared₀ i₀ za cleared i = length words - i
 
 -- ---- at a turn: the machine, and the word
-abbrev start : tie.At-loop invariant-loop decreases-loop → tie.Start invariant-loop decreases-loop
+abbrev start : tie.At-loop-i invariant-loop decreases-loop → tie.Start invariant-loop decreases-loop
 start l = l.before.before.before.before.before
 
-abbrev machine : tie.At-loop invariant-loop decreases-loop → Machine
-machine l = let a = (start l).args in on a.bench a.z.now a.p.now l.loop.za
+abbrev machine : tie.At-loop-i invariant-loop decreases-loop → Machine
+machine l = let a = (start l).args in on a.bench a.z.now a.p.now l.loop-i.za
 
-abbrev word : tie.At-loop invariant-loop decreases-loop → ℕ
-word l = get_or (start l).args.words.now l.loop.i 0
+abbrev word : tie.At-loop-i invariant-loop decreases-loop → ℕ
+word l = get_or (start l).args.words.now l.loop-i.i 0
 
 -- what tests 1 to 5 ask stays, so the bench still passes
-passing : (l : tie.At-loop invariant-loop decreases-loop) → first_failure (machine_tests (machine l)) ≡ none
-passing l = same_tests l.loop.invariant.alike ∙ (start l).requires
+passing : (l : tie.At-loop-i invariant-loop decreases-loop) → first_failure (machine_tests (machine l)) ≡ none
+passing l = same_tests l.loop-i.invariant.alike ∙ (start l).requires
 
-abbrev progress : tie.At-loop invariant-loop decreases-loop → Progress
-progress l = by_mask (machine l) l.loop.cleared
+abbrev progress : tie.At-loop-i invariant-loop decreases-loop → Progress
+progress l = by_mask (machine l) l.loop-i.cleared
 
 -- test 14 of the word
-abbrev last : tie.At-loop invariant-loop decreases-loop → List Test
-last l = cleared_test (start l).args.bench.vb (masked l.loop.cleared) (describe (word l)) ∷ []
+abbrev last : tie.At-loop-i invariant-loop decreases-loop → List Test
+last l = cleared_test (start l).args.bench.vb (masked l.loop-i.cleared) (describe (word l)) ∷ []
 
-abbrev turn : tie.After-execute-next invariant-loop decreases-loop → tie.At-loop invariant-loop decreases-loop
+abbrev turn : tie.After-execute_next invariant-loop decreases-loop → tie.At-loop-i invariant-loop decreases-loop
 turn x = x.before.before.before.before
 
 -- ---- a word that is executed
-abbrev executed : tie.After-instruction invariant-loop decreases-loop → tie.After-execute-next invariant-loop decreases-loop
+abbrev executed : tie.In-Accepted-2 invariant-loop decreases-loop → tie.After-execute_next invariant-loop decreases-loop
 executed i = i.before.before.before.before
 
-admitted : (i : tie.After-instruction invariant-loop decreases-loop) → (let l = turn (executed i) in
-    (next_refusal (progress l) (word l) ≡ none) × (describe (word l) ≡ some i.instruction.given.0.0))
+admitted : (i : tie.In-Accepted-2 invariant-loop decreases-loop) → (let l = turn (executed i) in
+    (next_refusal (progress l) (word l) ≡ none) × (describe (word l) ≡ some i.in-Accepted.instruction))
 admitted i =
     let l = turn (executed i) in
-    admit_accepted (start l).args.bench (word l) (last l) _ (sym i.instruction.given.1 ∙ (executed i).execute-next.ensures.0)
+    admit_accepted (start l).args.bench (word l) (last l) _ (sym i.in-Accepted.is ∙ (executed i).execute-next.ensures.0)
 
-loop-again : tie.Need-loop-preserved invariant-loop decreases-loop
+loop-again : tie.Need-loop-i-preserved invariant-loop decreases-loop
 loop-again c =
     let i = c.before.before in
     let x = executed i in
     let l = turn x in
     let (f, d) = admitted i in
-    run_turn _ _ (progress l) _ l.loop.inv x.before.before.before.if1.left _ f
-    (executed_next (machine l) l.loop.cleared (word l) _ _ (as_single (progress l) (word l) _ (passing l) f x.execute-next.ensures.1)
-    (λ r. c.also-cleared.ensures r ∙ ap (λ o. masked l.loop.cleared r || in_mask (mask_of o) r) (sym d)))
+    run_turn _ _ (progress l) _ l.loop-i.inv x.if-words-i.left _ f
+    (executed_next (machine l) l.loop-i.cleared (word l) _ _ (as_single (progress l) (word l) _ (passing l) f x.execute_next.ensures.za_after)
+    (λ r. c.also_cleared-cleared.ensures r ∙ ap (λ o. masked l.loop-i.cleared r || in_mask (mask_of o) r) (sym d)))
 
 -- ---- a word that is refused
-returns-2 : tie.Need-returns-2 invariant-loop decreases-loop
+returns-2 : tie.Need-returns-in-Refused invariant-loop decreases-loop
 returns-2 c =
     let x = c.before.before.before.before.before in
     let l = turn x in
-    let e = x.execute-next.ensures in
-    run_refused _ _ (progress l) _ l.loop.inv x.before.before.before.if1.false _ _
-    (admit_refused (start l).args.bench (word l) (last l) _ (sym c.before.r.given.1 ∙ e.0)) e.1
+    let e = x.execute_next.ensures in
+    run_refused _ _ (progress l) _ l.loop-i.inv x.if-words-i.false _ _
+    (admit_refused (start l).args.bench (word l) (last l) _ (sym c.in-Refused.is ∙ e.0)) e.1
 
 pub run_words_spec : {M : Type 1} → statement M
 run_words_spec =
@@ -96,7 +96,7 @@ run_words_spec =
     (λ c. search rules)
     (λ c. omega arith)
     loop-again
-    (λ c. c.before.loop.invariant.alike.za_length)
-    (λ c. run_end _ _ _ _ c.before.loop.invariant (omega arith))
+    (λ c. c.loop-i.invariant.alike.za_length)
+    (λ c. run_end _ _ _ _ c.loop-i.invariant (omega arith))
     (λ c. search rules)
     returns-2)

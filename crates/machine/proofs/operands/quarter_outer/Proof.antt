@@ -9,7 +9,7 @@ use Rattle.machine.proofs.operands.quarter_outer.Statement.{statement}
 use Rattle.machine.proofs.operands.quarter_outer.Tie as tie
 
 returns : tie.Need-returns
-returns c = c.outer-product.ensures ∙ rw (c.before.before.halves-operand.ensures, c.before.halves-operand2.ensures)
+returns c = c.outer_product.ensures ∙ rw (c.halves_operand-low.ensures, c.halves_operand-high.ensures)
 
 registers : (s : tie.Start) → (register s.args.first ≤ 14) × (register s.args.second ≤ 30)
 registers s =

@@ -13,21 +13,21 @@ use Rattle.machine.proofs.reversal.exchange.Tie as tie
 abbrev machine : tie.Start → Machine
 machine s = on s.args.bench s.args.z.now s.args.p.now s.args.za.now
 
-abbrev start : tie.After-check-bench → tie.Start
+abbrev start : tie.After-check_bench → tie.Start
 start c = c.before.before.before.before
 
-passed : (c : tie.After-enum-told2) → first_failure (machine_tests (machine (start c.before.before))) ≡ none
-passed c = outcome_done _ (sym c.enum-told2.given.1 ∙ c.before.before.check-bench.ensures)
+passed : (c : tie.In-Done) → first_failure (machine_tests (machine (start c.before.before))) ≡ none
+passed c = outcome_done _ (sym c.in-Done.is ∙ c.check_bench.ensures)
 
-returns : tie.Need-returns
+returns : tie.Need-returns-in-Refused
 returns c =
     let s = start c.before.before in
-    rw (refused_by_bench (machine s) s.args.word _ (outcome_refused _ _ (sym c.enum_told.given.1 ∙ c.before.before.check-bench.ensures)))
+    rw (refused_by_bench (machine s) s.args.word _ (outcome_refused _ _ (sym c.in-Refused.is ∙ c.check_bench.ensures)))
 
-returns-2 : tie.Need-returns-2
+returns-2 : tie.Need-returns-in-Done
 returns-2 c =
     let s = start c.before.before.before in
-    c.exchange-word.ensures ∙ rw (refused_by_word (machine s) s.args.word (passed c.before))
+    c.exchange_word.ensures ∙ rw (refused_by_word (machine s) s.args.word (passed c.before))
 
 pub exchange_spec : {M : Type 1} → statement M
 exchange_spec =

@@ -10,28 +10,28 @@ use Rattle.machine.proofs.Tests.{admit_accepted, admit_refused}
 use Rattle.machine.proofs.reversal.exchange_word.Statement.{statement}
 use Rattle.machine.proofs.reversal.exchange_word.Tie as tie
 
-admitted : (c : tie.After-i)
-    → (let a = c.before.before.before.args in (first_failure (word_tests a.bench a.word) ≡ none) × (describe a.word ≡ some c.i.given.0.0))
+admitted : (c : tie.In-Accepted-2)
+    → (let a = c.args in (first_failure (word_tests a.bench a.word) ≡ none) × (describe a.word ≡ some c.in-Accepted.i))
 admitted c =
-    let a = c.before.before.before.args in
-    admit_accepted a.bench a.word [] _ (sym c.i.given.1 ∙ c.before.before.admit.ensures)
+    let a = c.args in
+    admit_accepted a.bench a.word [] _ (sym c.in-Accepted.is ∙ c.admit.ensures)
 
-returns : tie.Need-returns
+returns : tie.Need-returns-then-has_opposite
 returns c =
     let h = c.before.before in
     let (f, d) = admitted h.before.before in
-    rw (f, d, sym h.has-opposite.ensures ∙ c.before.if1.true) c.flip-s.ensures
+    rw (f, d, sym h.has_opposite.ensures ∙ c.if-has_opposite.true) c.flip_s.ensures
 
-returns-2 : tie.Need-returns-2
+returns-2 : tie.Need-returns-in-Refused
 returns-2 c =
-    let a = c.before.before.before.args in
-    rw (admit_refused a.bench a.word [] _ (sym c.enum_told.given.1 ∙ c.before.before.admit.ensures))
+    let a = c.args in
+    rw (admit_refused a.bench a.word [] _ (sym c.in-Refused.is ∙ c.admit.ensures))
 
-returns-3 : tie.Need-returns-3
+returns-3 : tie.Need-returns-else-has_opposite
 returns-3 c =
     let h = c.before in
     let (f, d) = admitted h.before.before in
-    rw (f, d, sym h.has-opposite.ensures ∙ c.if1.false)
+    rw (f, d, sym h.has_opposite.ensures ∙ c.if-has_opposite.false)
 
 pub exchange_word_spec : {M : Type 1} → statement M
 exchange_word_spec =

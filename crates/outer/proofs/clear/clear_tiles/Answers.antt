@@ -1,6 +1,6 @@
 -- `outer::clear::clear_tiles` meets its contract: after some rows, those of the mask among them are cleared.
 -- Assumes nothing.
-use Rattle.std.proofs.Common.{◌≡◌, ◌-◌, ◌∙◌, arith}
+use Rattle.std.proofs.Common.{◌≡◌, ◌∙◌, arith}
 use Rattle.storage.proofs.Sizes.{legal-length}
 use Rattle.outer.proofs.Rows.{rows_none, rows_more, rows_all}
 use Rattle.outer.proofs.clear.clear_tiles.Goals as goal

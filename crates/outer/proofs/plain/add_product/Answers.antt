@@ -1,9 +1,7 @@
 -- `outer::plain::add_product` meets its contract: a product counts where both elements are active. Assumes nothing.
-use Rattle.std.proofs.Common.{◌≡◌, ℕ, ◌+◌, ◌*◌, ◌/◌, ◌<◌, List, arith, w32, to_z, of_z}
+use Rattle.std.proofs.Common.{◌≡◌, ℕ, ◌+◌, ◌*◌, ◌/◌, ◌<◌, List, arith}
 use Rattle.outer.specs.declared.OuterProduct.{OuterProduct}
-use Rattle.outer.specs.declared.Operand.{Operand}
 use Rattle.outer.specs.Products.{register_at, Shaped, Ready}
-use Rattle.outer.specs.Walks.{Valued}
 use Rattle.outer.proofs.Shapes.{shape, on_tile, register_lt, Numbered, numbered, Spot, spot}
 use Rattle.outer.proofs.Elements.{valued_off, valued_on, valued_back, valued_at, first_off, second_off, counted}
 use Rattle.outer.proofs.plain.add_product.Goals as goal
@@ -82,14 +80,19 @@ pub read-y-requires : goal.read-y-requires
 read-y-requires c = record { byte_or_half = (shape c.requires.shaped).source; b_in_bounds = omega (arith, second_spot c.requires.shaped c.requires.ready c.args.row c.register_at-m.ensures c.requires.row_bound.1 c.requires.row_bound.2, c.requires.ready.z_sized) }
 
 pub accumulate-requires : goal.accumulate-requires
-accumulate-requires c = record { shaped = c.requires.shaped; sum_bound = (c.requires.row_bound.3, 
-        (valued_back (shape c.requires.shaped).source (valued_on _ _ _ _ c.args.o.first _ _ c.is_active.ensures c.if-not-is_active.false c.read-x.ensures)).small, 
-        (valued_back (shape c.requires.shaped).source (valued_on _ _ _ _ c.args.o.second _ _ c.is_active-2.ensures c.if-not-is_active-2.false c.read-y.ensures)).small) }
+accumulate-requires c = record {
+  shaped = c.requires.shaped;
+  sum_bound = (
+    c.requires.row_bound.3,
+    (valued_back (shape c.requires.shaped).source (valued_on _ _ _ _ c.args.o.first _ _ c.is_active.ensures c.if-not-is_active.false c.read-x.ensures)).small,
+    (valued_back (shape c.requires.shaped).source (valued_on _ _ _ _ c.args.o.second _ _ c.is_active-2.ensures c.if-not-is_active-2.false c.read-y.ensures)).small,
+  );
+}
 
 pub returns : goal.returns
 returns c =
     let a = c.args in
-    counted a.o.element a.o.products a.vb a.o a.z.now a.p.now a.row a.col a.k a.sum _ 
+    counted a.o.element a.o.products a.vb a.o a.z.now a.p.now a.row a.col a.k a.sum _
     (valued_back (shape c.requires.shaped).source
     (valued_at c.register_at-n.ensures (valued_on _ _ _ _ _ _ _ c.is_active.ensures c.if-not-is_active.false c.read-x.ensures)))
     (valued_back (shape c.requires.shaped).source

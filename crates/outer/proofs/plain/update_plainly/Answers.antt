@@ -1,11 +1,9 @@
 -- `outer::plain::update_plainly` meets its contract: after the rows and columns walked, ZA has their elements' products added.
 -- Assumes nothing.
-use Rattle.std.proofs.Common.{◌≡◌, ℕ, ◌-◌, List, pos, sym, refl, ◌∙◌, arith}
+use Rattle.std.proofs.Common.{◌≡◌, pos, sym, refl, ◌∙◌, arith}
 use Rattle.storage.specs.Tile.{start}
-use Rattle.storage.proofs.Sizes.{ElementPlace}
-use Rattle.outer.specs.declared.OuterProduct.{OuterProduct}
-use Rattle.outer.specs.Products.{directed_product, sum, dot, sums}
-use Rattle.outer.proofs.Progress.{Tiled, Since, since_as, lent, placed, since_good, since_size, since_none, since_then, since_store, since_all}
+use Rattle.outer.specs.Products.{directed_product, dot}
+use Rattle.outer.proofs.Progress.{since_as, lent, placed, since_good, since_size, since_none, since_then, since_store, since_all}
 use Rattle.outer.proofs.Progress.{plus_lt, sum-start, sum_turn}
 use Rattle.outer.proofs.Shapes.{shape, on_tile}
 use Rattle.outer.proofs.plain.update_plainly.Goals as goal

@@ -10,8 +10,9 @@ half_of e q = rw e q
 
 half_is : (c : Joined-b-eq1) → c.if-b-eq1.half ≡ 256 ^ c.args.b / 2
 half_is c = elim c.if-b-eq1.branch [
-  then-b-eq1 w ↦ half_of w.if-b-eq1.true w.half-is
-  | else-b-eq1 w ↦ half_of (is_half c.requires.byte_or_half w.if-b-eq1.false) w.half-is ]
+  | then-b-eq1 w ↦ half_of w.if-b-eq1.true w.half-is
+  | else-b-eq1 w ↦ half_of (is_half c.requires.byte_or_half w.if-b-eq1.false) w.half-is
+]
 
 pub overflow_cast-result : goal.overflow_cast-result
 overflow_cast-result c = number_fits c.requires.byte_or_half c.requires.n_bound

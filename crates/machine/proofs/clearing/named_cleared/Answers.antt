@@ -1,0 +1,25 @@
+-- `machine::clearing::named_cleared` meets its contract: by the kind of instruction. Assumes nothing.
+use mathlib.Core.Path.{◌∙◌, sym, ap}
+use Rattle.isa.specs.Table.{in_range}
+use Rattle.machine.proofs.Ready.{predicated_tile, quarter_tile}
+use Rattle.machine.proofs.clearing.named_cleared.Goals as goal
+
+pub tile_cleared-requires : goal.tile_cleared-requires
+tile_cleared-requires c =
+    let g = c.i-1.given.0 in
+    predicated_tile g.0 g.1.0 g.1.1.0 g.1.1.1.0 g.1.1.1.1.0 g.1.1.1.1.1.0
+    (sym (ap in_range c.in-Predicated.is) ∙ c.requires)
+
+pub tile_cleared-requires-in-Quarter : goal.tile_cleared-requires-in-Quarter
+tile_cleared-requires-in-Quarter c =
+    let g = c.i-in-Quarter-1.given.0 in
+    quarter_tile g.0 g.1.0 g.1.1.0 g.1.1.1.0 (sym (ap in_range c.in-Quarter.is) ∙ c.requires)
+
+pub returns-in-Predicated : goal.returns-in-Predicated
+returns-in-Predicated c = rw c.in-Predicated.is (c.tile_cleared.ensures vb l)
+
+pub returns-in-Quarter : goal.returns-in-Quarter
+returns-in-Quarter c = rw c.in-Quarter.is (c.tile_cleared-in-Quarter.ensures vb l)
+
+pub returns-in-Zero : goal.returns-in-Zero
+returns-in-Zero c = rw c.in-Zero.is

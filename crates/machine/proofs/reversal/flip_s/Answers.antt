@@ -1,0 +1,9 @@
+-- `machine::reversal::flip_s` meets its contract. Assumes nothing.
+use borrow.Author.Tests.{eq-eqb, ne_eqb}
+use Rattle.machine.proofs.reversal.flip_s.Goals as goal
+
+pub returns-then-word-eq1 : goal.returns-then-word-eq1
+returns-then-word-eq1 c = rw (eq-eqb _ 1 c.if-word-eq1.true)
+
+pub returns-else-word-eq1 : goal.returns-else-word-eq1
+returns-else-word-eq1 c = rw (ne_eqb _ 1 c.if-word-eq1.false)
