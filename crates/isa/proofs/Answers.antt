@@ -6,7 +6,7 @@ use mathlib.Core.Option.{Option, none, some}
 use Prim.Native.Nat.{ℕ, ◌+◌, ◌≤◌, ◌<◌}
 use native.Mathlib.Omega.{arith}
 use lib.Dec.{eqb, ltb}
-use borrow.Author.Tests.{lt-ltb, le-ltb, eq-eqb, ne_eqb}
+use borrow.Author.Tests.{lt-ltb, le-ltb, ltb-true, ltb-false, not-true, not-false, eq-eqb, ne_eqb}
 use Rattle.isa.specs.Row.{matches}
 use Rattle.isa.specs.Refusals.{first_failure}
 use Rattle.isa.specs.Table.{Feature, flag, SME, I16I64, MOP4, SME2, on, lacking, all_flags, Entry, table, described, in_range, word_for}
@@ -42,6 +42,13 @@ pub on-lacking : (flags : ℕ) (fs : List Feature) → AllOn flags fs → lackin
 on-lacking flags [] h = refl
 on-lacking flags (f ∷ fs) h =
     rw (h f (Memᴰ.head refl), on-lacking flags fs (λ g m. h g (Memᴰ.tail m)))
+
+-- flags, by what flags_legal answers
+pub flags_fit : {flags : ℕ} {b : Bool} → b ≡ not (ltb all_flags flags) → b ≡ true → flags ≤ all_flags
+flags_fit p q = ltb-false _ _ (not-true _ (sym p ∙ q))
+
+pub flags_exceed : {flags : ℕ} {b : Bool} → b ≡ not (ltb all_flags flags) → b ≡ false → all_flags < flags
+flags_exceed p q = ltb-true _ _ (not-false _ (sym p ∙ q))
 
 -- ---- decode
 pub decode_flags : (flags w : ℕ) → all_flags < flags → decode_of flags w ≡ NotDecoded Flags

@@ -148,10 +148,10 @@ module _ (m : Machine) (ws : List ℕ) where
   started = go (first_failure (machine_tests m)) refl (ltb most_words (length ws)) refl
     where
       go : (o : Option Refusal) → first_failure (machine_tests m) ≡ o → (t : Bool) → ltb most_words (length ws) ≡ t → Started
-      go (some r) e t f = no (not_begun r (tests_by m ws (some r) e)) (λ z. let n = (run_bench_refused m ws r e).1.1.1.0 in absurd (omega (arith, number_positive r)))
+      go (some r) e t f = no (not_begun r (tests_by m ws (some r) e)) (λ z. let n = (run_bench_refused m ws r e).number in absurd (omega (arith, number_positive r)))
       go none e true f =
           let l = ltb-true most_words (length ws) f in
-          no (not_begun ListLength (tests_by m ws none e ∙ rw f)) (λ z. let n = (run_too_long m ws e l).1.1.1.0 in absurd (omega arith))
+          no (not_begun ListLength (tests_by m ws none e ∙ rw f)) (λ z. let n = (run_too_long m ws e l).number in absurd (omega arith))
       go none e false f = let q = machine_passes m e in yes (legal-length vb q.length_legal) q.za_sized ((runs m ws).begun q (ltb-false most_words (length ws) f))
 
   left_unmoved : ran m ws ≡ [] → run_left m ws ≡ m

@@ -91,12 +91,18 @@ module _ (b : Bench) (z p za : ℕ) where
       start_none l = start_by none h ∙ rw (le-ltb most_words words l)
 
     -- an answer and its numbers; none of these tests hands anything back
-    pub start-answered : {a : Outcome} → a ≡ outcome (first_failure (start_tests b z p za words))
-        → (a ≡ outcome (first_failure (start_tests b z p za words)))
-        × ((outcome_number a ≡ refusal_number (first_failure (start_tests b z p za words))) × (outcome_missing a ≡ 0))
+    pub start-answered : {a : Outcome} → a ≡ outcome (first_failure (start_tests b z p za words)) → record {
+      answer : a ≡ outcome (first_failure (start_tests b z p za words));
+      number : outcome_number a ≡ refusal_number (first_failure (start_tests b z p za words));
+      missing : outcome_missing a ≡ 0;
+    }
     start-answered e =
         let back = outcome_back (first_failure (start_tests b z p za words)) in
-        (e, (ap outcome_number e ∙ ap refusal_number back, ap outcome_missing e ∙ ap refusal_missing back ∙ plain_sum (start_tests b z p za words) refl))
+        record {
+          answer = e;
+          number = ap outcome_number e ∙ ap refusal_number back;
+          missing = ap outcome_missing e ∙ ap refusal_missing back ∙ plain_sum (start_tests b z p za words) refl;
+        }
 
     pub start_passes : Passes b z p za → words ≤ most_words → first_failure (start_tests b z p za words) ≡ none
     start_passes h l = start_none (bench_passed h) l

@@ -142,7 +142,7 @@ module _ (s₀ : Progress) (ws : List ℕ) where
 
   -- how a run ends: its answer, and its ZA
   abbrev pub RunEnds : ℕ → Option Refusal → List ℕ → Type 0
-  RunEnds n o za = (ended n o ≡ end_of s₀ ws) × (za ≡ (left_at_end s₀ ws).za)
+  RunEnds n o za = record { answer : ended n o ≡ end_of s₀ ws; za_after : za ≡ (left_at_end s₀ ws).za }
 
   module _ (s : Progress) (i : ℕ) (g : Running s i) where
     -- no word is left to execute
@@ -150,10 +150,11 @@ module _ (s₀ : Progress) (ws : List ℕ) where
     run_stops o n e =
         let c = g.counts in
         let k : length (before s (drop i ws)) ≡ 0 = ap length n in
-        let j : i ≡ length (before s₀ ws) = omega arith in (
-          ap₂ ended j (sym e ∙ g.stops),
-          ap (λ (n : Machine). n.za) (sym (played-none s.machine) ∙ sym (ap (played s.machine) n) ∙ g.left),
-        )
+        let j : i ≡ length (before s₀ ws) = omega arith in
+        record {
+          answer = ap₂ ended j (sym e ∙ g.stops);
+          za_after = ap (λ (n : Machine). n.za) (sym (played-none s.machine) ∙ sym (ap (played s.machine) n) ∙ g.left);
+        }
 
     pub run_end : length ws ≤ i → RunEnds i none s.machine.za
     run_end h = let e = drop_of_length-le ws h in run_stops none (ap (before s) e ∙ before_end s) (ap (stop s) e ∙ stop_end s)
@@ -163,7 +164,7 @@ module _ (s₀ : Progress) (ws : List ℕ) where
       run_refused r za f u =
           let e = left_cons ws i h in
           let x = run_stops (some r) (ap (before s) e ∙ before-none s _ _ r f) (ap (stop s) e ∙ stop_here s _ _ r f) in
-          (x.0, u ∙ ap (λ o. (left_by s.machine (get_or ws i 0) o).za) f ∙ x.1)
+          record { answer = x.answer; za_after = u ∙ ap (λ o. (left_by s.machine (get_or ws i 0) o).za) f ∙ x.za_after }
 
       pub run_turn : (s' : Progress) → next_refusal s (get_or ws i 0) ≡ none → s' ≡ onward s (get_or ws i 0) → Running s' (i + 1)
       run_turn s' f e =
@@ -196,14 +197,22 @@ module _ (m : Machine) (ws : List ℕ) where
   RunIs r m' = (r ≡ run_of m ws) × (m' ≡ run_left m ws)
 
   abbrev pub RunZa : Ended → List ℕ → Type 0
-  RunZa r za =
-      (r ≡ run_of m ws)
-      × ((za ≡ (run_left m ws).za)
-      × ((r.count ≡ run_count m ws) × ((outcome_number r.outcome ≡ run_number m ws) × (outcome_missing r.outcome ≡ run_missing m ws))))
+  RunZa r za = record {
+    answer : r ≡ run_of m ws;
+    za_after : za ≡ (run_left m ws).za;
+    count : r.count ≡ run_count m ws;
+    number : outcome_number r.outcome ≡ run_number m ws;
+    missing : outcome_missing r.outcome ≡ run_missing m ws;
+  }
 
   pub run_numbers : (r : Ended) (za : List ℕ) → r ≡ run_of m ws → za ≡ (run_left m ws).za → RunZa r za
-  run_numbers r za e f =
-      (e, (f, (ap (λ (r : Ended). r.count) e, (ap (λ (r : Ended). outcome_number r.outcome) e, ap (λ (r : Ended). outcome_missing r.outcome) e))))
+  run_numbers r za e f = record {
+    answer = e;
+    za_after = f;
+    count = ap (λ (r : Ended). r.count) e;
+    number = ap (λ (r : Ended). outcome_number r.outcome) e;
+    missing = ap (λ (r : Ended). outcome_missing r.outcome) e;
+  }
 
   run_za : (r : Ended) (m' : Machine) → RunIs r m' → RunZa r m'.za
   run_za r m' e = run_numbers r m'.za e.0 (ap (λ (n : Machine). n.za) e.1)

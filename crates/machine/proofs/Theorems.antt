@@ -232,8 +232,8 @@ module _ (m : Machine) (ws : List ℕ) where
   run_most = go (first_failure (machine_tests m)) refl (ltb most_words (length ws)) refl
     where
       go : (o : Option Refusal) → first_failure (machine_tests m) ≡ o → (t : Bool) → ltb most_words (length ws) ≡ t → run_count m ws ≤ most_words
-      go (some r) e t f = let c = ap (λ (r : Ended). r.count) (run_bench_refused m ws r e).0 in omega arith
-      go none e true f = let c = ap (λ (r : Ended). r.count) (run_too_long m ws e (ltb-true most_words (length ws) f)).0 in omega arith
+      go (some r) e t f = let c = ap (λ (r : Ended). r.count) (run_bench_refused m ws r e).answer in omega arith
+      go none e true f = let c = ap (λ (r : Ended). r.count) (run_too_long m ws e (ltb-true most_words (length ws) f)).answer in omega arith
       go none e false f =
           let h = ltb-false most_words (length ws) f in
           let c = ap (λ (r : Ended). r.count) (run_begun m ws e h).0 in

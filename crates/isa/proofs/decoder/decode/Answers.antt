@@ -1,14 +1,10 @@
 -- `isa::decoder::decode` meets its contract: by the flags, then by what the word's line lacks. Assumes nothing.
 use mathlib.Core.Path.{◌≡◌, ◌∙◌, sym, ap}
-use mathlib.Core.Bool.{Bool, true, false, not}
-use lib.Dec.{ltb}
-use Prim.Native.Nat.{ℕ, ◌≤◌, ◌<◌}
-use borrow.Author.Tests.{ltb-true, ltb-false, not-true, not-false}
-use Rattle.isa.specs.Table.{all_flags}
+use Prim.Native.Nat.{ℕ}
 use Rattle.isa.specs.Answers.{decode_of, decoded_number, decoded_missing, decode_number, decode_missing}
 use Rattle.isa.specs.declared.Decoded.{Decoded}
 use Rattle.isa.specs.declared.Decoded.TheVariants.{Refused as NotDecoded}
-use Rattle.isa.proofs.Answers.{decode_flags, decode_lacking, decode_open}
+use Rattle.isa.proofs.Answers.{flags_fit, flags_exceed, decode_flags, decode_lacking, decode_open}
 use Rattle.isa.proofs.decoder.decode.Goals as goal
 
 -- an answer that is the definition's has its number and its sum
@@ -19,24 +15,17 @@ answers : (flags w : ℕ) {r : Decoded} → r ≡ decode_of flags w → record {
 }
 answers flags w p = record { answer = p; number = ap decoded_number p; missing = ap decoded_missing p }
 
--- flags that are no sum of features, or that are one
-illegal : {flags : ℕ} {b : Bool} → b ≡ not (ltb all_flags flags) → b ≡ false → all_flags < flags
-illegal p q = ltb-true _ _ (not-false _ (sym p ∙ q))
-
-legal : {flags : ℕ} {b : Bool} → b ≡ not (ltb all_flags flags) → b ≡ true → flags ≤ all_flags
-legal p q = ltb-false _ _ (not-true _ (sym p ∙ q))
-
 pub returns-then-not-flags_legal : goal.returns-then-not-flags_legal
-returns-then-not-flags_legal c = answers _ _ (sym (decode_flags _ _ (illegal c.flags_legal.ensures c.if-not-flags_legal.true)))
+returns-then-not-flags_legal c = answers _ _ (sym (decode_flags _ _ (flags_exceed c.flags_legal.ensures c.if-not-flags_legal.true)))
 
 pub returns-then-lacking-ne0 : goal.returns-then-lacking-ne0
 returns-then-lacking-ne0 c =
     answers _ _
     (ap NotDecoded c.feature_off.ensures
-    ∙ sym (decode_lacking _ _ (legal c.flags_legal.ensures c.if-not-flags_legal.false) c.line_of-line.ensures c.lacking.ensures c.if-lacking-ne0.true))
+    ∙ sym (decode_lacking _ _ (flags_fit c.flags_legal.ensures c.if-not-flags_legal.false) c.line_of-line.ensures c.lacking.ensures c.if-lacking-ne0.true))
 
 pub returns : goal.returns
 returns c =
     answers _ _
     (c.describe.ensures
-    ∙ sym (decode_open _ _ (legal c.flags_legal.ensures c.if-not-flags_legal.false) c.line_of-line.ensures c.lacking.ensures c.if-lacking-ne0.false))
+    ∙ sym (decode_open _ _ (flags_fit c.flags_legal.ensures c.if-not-flags_legal.false) c.line_of-line.ensures c.lacking.ensures c.if-lacking-ne0.false))

@@ -5,7 +5,6 @@ use mathlib.Core.Bool.{Bool, true, false}
 use mathlib.Core.List.{List, ◌∷◌}
 use mathlib.Core.Option.{some}
 use Prim.Native.Nat.{ℕ}
-use lib.ListN.{drop}
 use Rattle.isa.specs.Row.{matches}
 use Rattle.isa.specs.Table.{Entry, table}
 use Rattle.isa.specs.Answers.{lookup}

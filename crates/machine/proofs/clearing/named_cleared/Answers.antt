@@ -6,20 +6,20 @@ use Rattle.machine.proofs.clearing.named_cleared.Goals as goal
 
 pub tile_cleared-requires : goal.tile_cleared-requires
 tile_cleared-requires c =
-    let g = c.i-1.given.0 in
-    predicated_tile g.0 g.1.0 g.1.1.0 g.1.1.1.0 g.1.1.1.1.0 g.1.1.1.1.1.0
+    let i = c.in-Predicated in
+    predicated_tile i.op i.tile i.pn i.pm i.zn i.zm
     (sym (ap in_range c.in-Predicated.is) ∙ c.requires)
 
 pub tile_cleared-requires-in-Quarter : goal.tile_cleared-requires-in-Quarter
 tile_cleared-requires-in-Quarter c =
-    let g = c.i-in-Quarter-1.given.0 in
-    quarter_tile g.0 g.1.0 g.1.1.0 g.1.1.1.0 (sym (ap in_range c.in-Quarter.is) ∙ c.requires)
+    let i = c.in-Quarter in
+    quarter_tile i.op i.tile i.first i.second (sym (ap in_range c.in-Quarter.is) ∙ c.requires)
 
 pub returns-in-Predicated : goal.returns-in-Predicated
-returns-in-Predicated c = rw c.in-Predicated.is (c.tile_cleared.ensures vb l)
+returns-in-Predicated c vb l = rw c.in-Predicated.is (c.tile_cleared.ensures vb l)
 
 pub returns-in-Quarter : goal.returns-in-Quarter
-returns-in-Quarter c = rw c.in-Quarter.is (c.tile_cleared-in-Quarter.ensures vb l)
+returns-in-Quarter c vb l = rw c.in-Quarter.is (c.tile_cleared-in-Quarter.ensures vb l)
 
 pub returns-in-Zero : goal.returns-in-Zero
-returns-in-Zero c = rw c.in-Zero.is
+returns-in-Zero c vb l = rw c.in-Zero.is

@@ -1,5 +1,4 @@
 -- `machine::lists::play` meets its contract: what is left of the list ends as the whole does. Assumes nothing.
-use Prim.Native.Nat.{◌-◌}
 use native.Mathlib.Omega.{arith}
 use Rattle.machine.proofs.Runs.{turn, play_start, play_turn, play_end}
 use Rattle.machine.proofs.lists.play.Goals as goal
