@@ -22,7 +22,7 @@ module _ {before after : List ℕ} {at next : ℕ} where
   put_as p e = record { ends = rw (← e) p.ends; text = rw (← e) p.text }
 
 -- what a call left at the start of the part that it was lent, said of the whole room
-part-set : (room : List ℕ) (i : ℕ) (t : List ℕ) → i + length t ≤ length room → take i room ++ (t ++ drop (length t) (drop i room)) ≡ sets room i t
+pub part-set : (room : List ℕ) (i : ℕ) (t : List ℕ) → i + length t ≤ length room → take i room ++ (t ++ drop (length t) (drop i room)) ≡ sets room i t
 part-set room i t h =
     ap (λ (r : List ℕ). take i room ++ (t ++ r)) (drop-drop (length t) i room)
     ∙ sym (append_assoc (take i room) t (drop (i + length t) room))

@@ -78,5 +78,7 @@ pub(crate) fn put(room: &mut [u8], at: usize, text: &[u8]) -> usize
     requires { at + length text.now ≤ length room.old }
     ensures { Put room.old at room.new result text.now }
 {
-    at + bytes::copy(text, &mut room[at..])
+    let end = at + text.len();
+    room[at..end].copy_from_slice(text);
+    end
 }

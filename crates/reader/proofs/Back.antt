@@ -282,7 +282,7 @@ quarter_back op tile first second h =
     let f = quarter_range op tile first second h in
     let o = shaped op (every_all (ranges (Quarter op tile first second)) h).0 in
     let k = halves op in
-    rw o.bytes
+    simp o.bytes
     (outer_back true op _ _ _ (named true op _)
     (first_operand (behind_name true) (tile_name (cond op.wide 8 4) tile) (tile_scan 4 op.wide tile (omega (arith, f)))
     (behind (source_name (bytes_by k) first) (source_scan _ k first (omega (arith, f)))

@@ -22,40 +22,40 @@ unfolding order_matters
 by_decode flags a b d e p q = ap₂ (λ x y. clash (tile_decoded x) (tile_decoded y)) p q
 
 -- both words decoded
-abbrev first : tie.After-j → tie.After-i
+abbrev first : tie.In-Accepted-decode-2 → tie.In-Accepted-2
 first c = c.before.before.before.before
 
-abbrev start : tie.After-i → tie.Start
+abbrev start : tie.In-Accepted-2 → tie.Start
 start c = c.before.before.before
 
-decoded_first : (c : tie.After-i) → decode_of (start c).args.flags (start c).args.a ≡ Accepted c.i.given.0.0
-decoded_first c = sym c.before.before.decode.ensures.0 ∙ c.i.given.1
+decoded_first : (c : tie.In-Accepted-2) → decode_of (start c).args.flags (start c).args.a ≡ Accepted c.in-Accepted.i
+decoded_first c = sym c.decode.ensures.answer ∙ c.in-Accepted.is
 
-decoded_second : (c : tie.After-j) → decode_of (start (first c)).args.flags (start (first c)).args.b ≡ Accepted c.j.given.0.0
-decoded_second c = sym c.before.before.decode2.ensures.0 ∙ c.j.given.1
+decoded_second : (c : tie.In-Accepted-decode-2) → decode_of (start (first c)).args.flags (start (first c)).args.b ≡ Accepted c.in-Accepted-decode.j
+decoded_second c = sym c.decode-in-Accepted.ensures.answer ∙ c.in-Accepted-decode.is
 
-instructions-clash-requires : tie.Need-instructions-clash-requires
+instructions-clash-requires : tie.Need-instructions_clash-requires
 instructions-clash-requires c κs =
     let j = c.before in
     (accepted_in_range _ _ _ (decoded_first (first j)), accepted_in_range _ _ _ (decoded_second j))
 
-returns : tie.Need-returns
+returns : tie.Need-returns-in-Refused
 returns c =
     let s = c.before.before.before in
-    sym (by_decode s.args.flags s.args.a s.args.b _ _ (sym c.before.before.decode.ensures.0 ∙ c.enum_told.given.1) refl)
+    sym (by_decode s.args.flags s.args.a s.args.b _ _ (sym c.decode.ensures.answer ∙ c.in-Refused.is) refl)
 
-returns-2 : tie.Need-returns-2
+returns-2 : tie.Need-returns-in-Refused-decode
 returns-2 c =
     let i = c.before.before.before.before in
     let s = start i in
-    sym (by_decode s.args.flags s.args.a s.args.b _ _ (decoded_first i) (sym c.before.before.decode2.ensures.0 ∙ c.enum-told2.given.1)
-    ∙ clash-none (tile_named (some i.i.given.0.0)))
+    sym (by_decode s.args.flags s.args.a s.args.b _ _ (decoded_first i) (sym c.decode-in-Accepted.ensures.answer ∙ c.in-Refused-decode.is)
+    ∙ clash-none (tile_named (some i.in-Accepted.i)))
 
-returns-3 : tie.Need-returns-3
+returns-3 : tie.Need-returns-in-Accepted-decode
 returns-3 c =
     let j = c.before.before in
     let s = start (first j) in
-    c.instructions-clash.ensures ∙ sym (by_decode s.args.flags s.args.a s.args.b _ _ (decoded_first (first j)) (decoded_second j))
+    c.instructions_clash.ensures ∙ sym (by_decode s.args.flags s.args.a s.args.b _ _ (decoded_first (first j)) (decoded_second j))
 
 pub order_matters_spec : {M : Type 1} → statement M
 order_matters_spec =

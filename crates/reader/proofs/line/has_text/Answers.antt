@@ -1,0 +1,20 @@
+-- `reader::line::has_text` meets its contract: with every feature on, print refuses unlisted words alone. Assumes nothing.
+use Rattle.reader.proofs.Readings.{printed_fits, printed-same, refused_unlisted}
+use mathlib.Core.Path.{◌∙◌, sym}
+use native.Mathlib.Omega.{arith}
+use Rattle.reader.proofs.line.has_text.Goals as goal
+
+pub same-requires : goal.same-requires
+same-requires c =
+    let p = c.print in
+    rw p.ensures.room_after (printed_fits _ _ _ (sym p.ensures.answer ∙ c.in-Length.is))
+
+pub returns-in-Length : goal.returns-in-Length
+returns-in-Length c =
+    let p = c.print in
+    c.same.ensures ∙ rw p.ensures.room_after (printed-same _ _ _ (sym p.ensures.answer ∙ c.in-Length.is) _)
+
+pub returns-in-Refused : goal.returns-in-Refused
+returns-in-Refused c =
+    let p = c.print in
+    refused_unlisted _ _ _ _ (omega arith) (sym p.ensures.answer ∙ c.in-Refused.is)

@@ -1,0 +1,26 @@
+-- `text::copy` meets its contract: after i turns the first i bytes of the text stand in the room. Assumes nothing.
+use mathlib.Core.Path.{◌≡◌, ◌∙◌, refl}
+use native.Mathlib.Numerals.{add-one}
+use native.Mathlib.Nat.{zero-add}
+use native.Mathlib.Omega.{arith}
+use lib.ListN.{length-set}
+use lib.Seq.{paste-zero}
+use Rattle.text.proofs.Rooms.{paste_next}
+use Rattle.text.proofs.copy.Goals as goal
+
+pub loop-i-init : goal.loop-i-init
+loop-i-init c = let a = c.args in (omega arith, refl, paste-zero a.room.now 0 a.text.now)
+
+pub loop-i-preserved : goal.loop-i-preserved
+loop-i-preserved c =
+    let a = c.args in
+    let (h, l, e) = c.loop-i.invariant in
+    let i = c.loop-i.i in
+    (omega arith, simp length-set l, rw (e, add-one i) (paste_next a.room.now a.text.now i (omega arith) (omega arith)))
+
+pub returns : goal.returns
+returns c =
+    let a = c.args in
+    let (h, l, e) = c.loop-i.invariant in
+    let n : c.loop-i.i ≡ a.n = omega arith in
+    e ∙ rw (n, zero-add a.n)
