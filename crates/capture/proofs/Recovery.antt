@@ -1,12 +1,12 @@
 -- What read answers, by what was found in the file. Assumes nothing.
 use mathlib.Core.Path.{◌≡◌, refl, sym, ap, ◌∙◌}
-use mathlib.Core.Bool.{Bool, true, false, not}
+use mathlib.Core.Bool.{Bool, true, false}
 use mathlib.Core.List.{List, ◌++◌}
 use Prim.Native.Nat.{ℕ, ◌≤◌, ◌<◌}
 use native.Mathlib.Omega.{arith}
 use lib.ListN.{length, drop}
 use lib.Seq.{drop-cons}
-use borrow.Author.Tests.{leb-true, le-leb, not-true, not-false}
+use borrow.Author.Tests.{leb-true, le-leb}
 use Rattle.isa.specs.declared.Refusal.TheVariants.{Room, Version, Format}
 use Rattle.isa.proofs.Rows.{both}
 use Rattle.storage.specs.Sizes.{z_size, p_size, za_size}
@@ -48,8 +48,8 @@ pub record Enough (n vb words z p za : ℕ) : Type 0 where
   pub for_p : p_size vb ≤ p
   pub for_za : za_size vb ≤ za
 
-pub enough : {t : Bool} (n vb words z p za : ℕ) → t ≡ long_enough n vb words z p za → not t ≡ false → Enough n vb words z p za
-enough {t} n vb words z p za e g = parts (sym e ∙ not-false t g)
+pub enough : {t : Bool} (n vb words z p za : ℕ) → t ≡ long_enough n vb words z p za → t ≡ true → Enough n vb words z p za
+enough n vb words z p za e g = parts (sym e ∙ g)
   where
     parts : long_enough n vb words z p za ≡ true → Enough n vb words z p za
     parts h =
@@ -69,7 +69,7 @@ module _ (file : List ℕ) (bench : Bench) (n : ℕ) (words z p za : List ℕ) (
   abbrev vb : ℕ
   vb = bench.vb
 
-  pub read_short : {t : Bool} → t ≡ long_enough n vb (length words) (length z) (length p) (length za) → not t ≡ true → Reads file (buffers words z p za) (NotRead Room) (buffers words z p za)
+  pub read_short : {t : Bool} → t ≡ long_enough n vb (length words) (length z) (length p) (length za) → t ≡ false → Reads file (buffers words z p za) (NotRead Room) (buffers words z p za)
   read_short {t} h g = too_long c q.holds no_room refl refl
     where
       no_room : Fits c (buffers words z p za) → ⊥
@@ -83,7 +83,7 @@ module _ (file : List ℕ) (bench : Bench) (n : ℕ) (words z p za : List ℕ) (
             for_p = rw l.p_sized at f.p_fit;
             for_za = rw l.za_sized at f.za_fit;
           }) in
-          let r : true ≡ false = sym e ∙ sym h ∙ not-true t g in
+          let r : true ≡ false = sym e ∙ sym h ∙ g in
           let y : ◌≡◌ {A = ℕ} 0 1 = cc in
           omega arith
 

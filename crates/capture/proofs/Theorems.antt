@@ -115,8 +115,9 @@ every-answer file b after r q =
     untouched (malformed o m e l) n = l
     untouched (too_long c h f e l) n = l
 
-pub answered : {file : List ℕ} {b after : Buffers} {r : Reading} → Reads file b r after → Reads file b r after × Answers file b r
-answered {file} {b} {after} {r} q = (q, every-answer file b after r q)
+pub answered : {file : List ℕ} {b after : Buffers} {r : Reading} → Reads file b r after
+    → record { reads : Reads file b r after; answers : Answers file b r }
+answered {file} {b} {after} {r} q = record { reads = q; answers = every-answer file b after r q }
 
 -- ---- writing
 module _ (c : Capture) (room : List ℕ) where

@@ -87,8 +87,9 @@ pub put_over : (t room : List ℕ) → length t ≤ length room → sets room 0 
 put_over t room h = sets-eq t room 0 (omega arith) ∙ rw (zero-add (length t))
 
 -- ---- an answer and its numbers
-pub numbered : {a w : Written} {A : Type 0} → (a ≡ w) × A → (a ≡ w) × (A × ((written_number a ≡ written_number w) × (written_length a ≡ written_length w)))
-numbered h = (h.0, (h.1, (ap written_number h.0, ap written_length h.0)))
+pub numbered : {a w : Written} {A : Type 0} → (a ≡ w) × A
+    → record { answer : a ≡ w; room_after : A; number : written_number a ≡ written_number w; len : written_length a ≡ written_length w }
+numbered h = record { answer = h.0; room_after = h.1; number = ap written_number h.0; len = ap written_length h.0 }
 
 -- ---- the tests decide
 module _ (c : Capture) (room : List ℕ) where

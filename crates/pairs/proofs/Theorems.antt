@@ -19,7 +19,6 @@ use Rattle.isa.proofs.Answers.{decode_passed}
 use Rattle.isa.proofs.Refusals.{number_positive}
 use Rattle.isa.proofs.Rows.{both}
 use Rattle.isa.proofs.Theorems.{decodes}
-use Rattle.storage.specs.Bytes.{at}
 use Rattle.storage.specs.Sizes.{legal, z_size, p_size, za_size}
 use Rattle.storage.proofs.Laws.{Good}
 use Rattle.storage.proofs.Sizes.{Length, legal-length, za_good}

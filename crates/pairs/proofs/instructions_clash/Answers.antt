@@ -6,16 +6,16 @@ use Rattle.pairs.proofs.instructions_clash.Goals as goal
 
 pub tile_clashes-requires : goal.tile_clashes-requires
 tile_clashes-requires c =
-    let g = c.i-1.given.0 in (
-      predicated_tile g.0 g.1.0 g.1.1.0 g.1.1.1.0 g.1.1.1.1.0 g.1.1.1.1.1.0
+    let i = c.in-Predicated in (
+      predicated_tile i.op i.tile i.pn i.pm i.zn i.zm
           (sym (ap in_range c.in-Predicated.is) ∙ c.requires.0),
       c.requires.1,
     )
 
 pub tile_clashes-requires-in-Quarter : goal.tile_clashes-requires-in-Quarter
 tile_clashes-requires-in-Quarter c =
-    let g = c.i-in-Quarter-1.given.0 in (
-      quarter_tile g.0 g.1.0 g.1.1.0 g.1.1.1.0 (sym (ap in_range c.in-Quarter.is) ∙ c.requires.0),
+    let i = c.in-Quarter in (
+      quarter_tile i.op i.tile i.first i.second (sym (ap in_range c.in-Quarter.is) ∙ c.requires.0),
       c.requires.1,
     )
 

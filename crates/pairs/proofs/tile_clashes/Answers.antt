@@ -6,17 +6,17 @@ use Rattle.pairs.proofs.tile_clashes.Goals as goal
 
 pub tiles_clash-requires : goal.tiles_clash-requires
 tiles_clash-requires c =
-    let g = c.j-1.given.0 in (
+    let j = c.in-Predicated in (
       c.requires.0,
-      predicated_tile g.0 g.1.0 g.1.1.0 g.1.1.1.0 g.1.1.1.1.0 g.1.1.1.1.1.0
+      predicated_tile j.other j.tile j.pn j.pm j.zn j.zm
           (sym (ap in_range c.in-Predicated.is) ∙ c.requires.1),
     )
 
 pub tiles_clash-requires-in-Quarter : goal.tiles_clash-requires-in-Quarter
 tiles_clash-requires-in-Quarter c =
-    let g = c.j-in-Quarter-1.given.0 in (
+    let j = c.in-Quarter in (
       c.requires.0,
-      quarter_tile g.0 g.1.0 g.1.1.0 g.1.1.1.0 (sym (ap in_range c.in-Quarter.is) ∙ c.requires.1),
+      quarter_tile j.other j.tile j.first j.second (sym (ap in_range c.in-Quarter.is) ∙ c.requires.1),
     )
 
 pub returns-in-Predicated : goal.returns-in-Predicated

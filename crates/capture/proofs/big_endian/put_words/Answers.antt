@@ -1,6 +1,5 @@
 -- `capture::big_endian::put_words` meets its contract. Assumes nothing.
 use mathlib.Core.Path.{◌∙◌, refl, ap}
-use Prim.Native.Nat.{◌-◌}
 use native.Mathlib.Numerals.{add-one}
 use native.Mathlib.Omega.{arith}
 use lib.ListN.{length}

@@ -7,13 +7,13 @@ use Rattle.capture.proofs.Theorems.{answered}
 use Rattle.capture.proofs.reader.read.Goals as goal
 
 pub returns-then-file-eq0 : goal.returns-then-file-eq0
-returns-then-file-eq0 c = answered (read_empty _ _ c.if-file-eq0.true)  -- LEFT record: reads answers
+returns-then-file-eq0 c = answered (read_empty _ _ c.if-file-eq0.true)
 
 pub returns-then-file-ne-VERSION : goal.returns-then-file-ne-VERSION
-returns-then-file-ne-VERSION c = let a = c.args in answered (read_another a.file.now _ (omega arith) c.if-file-ne-VERSION.true)  -- LEFT record: reads answers
+returns-then-file-ne-VERSION c = let a = c.args in answered (read_another a.file.now _ (omega arith) c.if-file-ne-VERSION.true)
 
 pub returns-in_default : goal.returns-in_default
-returns-in_default c = answered (read_nothing _ _ _ c.if-file-ne-VERSION.false c.find.ensures c.in_default.is)  -- LEFT record: reads answers
+returns-in_default c = answered (read_nothing _ _ _ c.if-file-ne-VERSION.false c.find.ensures c.in_default.is)
 
 pub long_enough-requires : goal.long_enough-requires
 long_enough-requires c = (is_capture _ _ _ _ c.find.ensures c.in-Capture.is).vb_most
@@ -21,13 +21,13 @@ long_enough-requires c = (is_capture _ _ _ _ c.find.ensures c.in-Capture.is).vb_
 pub returns-then-not-long_enough : goal.returns-then-not-long_enough
 returns-then-not-long_enough c =
     let a = c.args in
-    answered (read_short a.file.now _ _ a.words.now a.z.now a.p.now a.za.now (is_capture _ _ _ _ c.find.ensures c.in-Capture.is) c.long_enough.ensures c.if-not-long_enough.true)  -- LEFT record: reads answers
+    answered (read_short a.file.now _ _ a.words.now a.z.now a.p.now a.za.now (is_capture _ _ _ _ c.find.ensures c.in-Capture.is) c.long_enough.ensures c.if-not-long_enough.true)
 
 pub take_parts-requires : goal.take_parts-requires
 take_parts-requires c =
     let q = is_capture _ _ _ _ c.find.ensures c.in-Capture.is in
     let l = le_of_eq (sym q.size) in
-    let h = enough _ _ _ _ _ _ c.long_enough.ensures c.if-not-long_enough.false-raw in
+    let h = enough _ _ _ _ _ _ c.long_enough.ensures c.if-not-long_enough.false in
     record { file_holds = (q.words_most, q.vb_most, q.za_most, l); rooms_hold = (h.for_words, h.for_z, h.for_p, h.for_za) }
 
 pub returns : goal.returns
@@ -36,4 +36,4 @@ returns c =
     let e = c.take_parts.ensures in
     answered
     (read_done a.file.now _ _ a.words.now a.z.now a.p.now a.za.now (is_capture _ _ _ _ c.find.ensures c.in-Capture.is)
-    (enough _ _ _ _ _ _ c.long_enough.ensures c.if-not-long_enough.false-raw) _ _ _ _ e.0 e.1.0 e.1.1.0 e.1.1.1)  -- LEFT record: reads answers
+    (enough _ _ _ _ _ _ c.long_enough.ensures c.if-not-long_enough.false) _ _ _ _ e.words_after e.z_after e.p_after e.za_after)
