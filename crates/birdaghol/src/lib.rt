@@ -43,8 +43,7 @@ const QUARTER: u32 = 2;
 const ZERO: u32 = 3;
 
 // 0 where the word is an instruction with these features, else the refusal.
-#[unsafe(no_mangle)]
-pub extern "C" fn birdaghol_decode(flags: u32, word: u32) -> u64
+pub fn birdaghol_decode(flags: u32, word: u32) -> u64
     ensures { result ≡ decode_call flags word }
 {
     match isa::check(flags, word) {
@@ -55,8 +54,7 @@ pub extern "C" fn birdaghol_decode(flags: u32, word: u32) -> u64
 
 // Puts the description of a word at the start of fields: its kind, then the arguments of that kind's encode in their order.
 // 0, or the refusal, which leaves fields as they were; 12 where they have fewer places.
-#[unsafe(no_mangle)]
-pub extern "C" fn birdaghol_describe(flags: u32, word: u32, fields: &mut [u32]) -> u64
+pub fn birdaghol_describe(flags: u32, word: u32, fields: &mut [u32]) -> u64
     ensures answer { result ≡ describe_call flags word (length fields.old) }
     ensures fields_after { fields.new ≡ fields_after flags word fields.old }
 {
@@ -67,8 +65,7 @@ pub extern "C" fn birdaghol_describe(flags: u32, word: u32, fields: &mut [u32]) 
 }
 
 // Puts the text of a word at the start of room. The value is its length.
-#[unsafe(no_mangle)]
-pub extern "C" fn birdaghol_print(flags: u32, word: u32, room: &mut [u8]) -> u64
+pub fn birdaghol_print(flags: u32, word: u32, room: &mut [u8]) -> u64
     ensures answer { result ≡ print_call flags word (length room.old) }
     ensures room_after { room.new ≡ room_after flags word room.old }
 {
@@ -79,8 +76,7 @@ pub extern "C" fn birdaghol_print(flags: u32, word: u32, room: &mut [u8]) -> u64
 }
 
 // The word that has this text. The value is the word.
-#[unsafe(no_mangle)]
-pub extern "C" fn birdaghol_read(flags: u32, line: &[u8]) -> u64
+pub fn birdaghol_read(flags: u32, line: &[u8]) -> u64
     ensures { result ≡ read_call flags line.now }
 {
     match reader::read(flags, line) {
@@ -90,8 +86,7 @@ pub extern "C" fn birdaghol_read(flags: u32, line: &[u8]) -> u64
 }
 
 // The word of a predicated outer product. The value is the word.
-#[unsafe(no_mangle)]
-pub extern "C" fn birdaghol_encode_predicated(
+pub fn birdaghol_encode_predicated(
     element_bytes: u32,
     products: u32,
     first_unsigned: bool,
@@ -124,8 +119,7 @@ pub extern "C" fn birdaghol_encode_predicated(
 }
 
 // The word of a quarter-tile outer product; a pair is given by its first register. The value is the word.
-#[unsafe(no_mangle)]
-pub extern "C" fn birdaghol_encode_quarter(
+pub fn birdaghol_encode_quarter(
     element_bytes: u32,
     products: u32,
     first_unsigned: bool,
@@ -156,16 +150,14 @@ pub extern "C" fn birdaghol_encode_quarter(
 }
 
 // The word of a ZERO. The value is the word.
-#[unsafe(no_mangle)]
-pub extern "C" fn birdaghol_encode_zero(mask: u8) -> u64
+pub fn birdaghol_encode_zero(mask: u8) -> u64
     ensures { result ≡ zero_call mask }
 {
     encode(Instruction::Zero(mask))
 }
 
 // Executes a word on ZA: 0, or the refusal, which leaves ZA as it was.
-#[unsafe(no_mangle)]
-pub extern "C" fn birdaghol_execute(
+pub fn birdaghol_execute(
     flags: u32,
     streaming: bool,
     za_on: bool,
@@ -183,8 +175,7 @@ pub extern "C" fn birdaghol_execute(
 
 // Executes words in turn, up to the first that is refused. The value is the number of words executed: 65,536 at most, and 0
 // for a longer list.
-#[unsafe(no_mangle)]
-pub extern "C" fn birdaghol_run(
+pub fn birdaghol_run(
     flags: u32,
     streaming: bool,
     za_on: bool,
@@ -203,8 +194,7 @@ pub extern "C" fn birdaghol_run(
 }
 
 // Writes a run as a capture to the start of file. The value is the file's length.
-#[unsafe(no_mangle)]
-pub extern "C" fn birdaghol_capture_write(
+pub fn birdaghol_capture_write(
     flags: u32,
     streaming: bool,
     za_on: bool,
@@ -225,8 +215,7 @@ pub extern "C" fn birdaghol_capture_write(
 }
 
 // Puts the contents of a capture at the starts of words, z, p and za. The value is words * 65536 + vb * 64 + modes * 16 + flags.
-#[unsafe(no_mangle)]
-pub extern "C" fn birdaghol_capture_read(
+pub fn birdaghol_capture_read(
     file: &[u8],
     words: &mut [u32],
     z: &mut [u8],
@@ -243,8 +232,7 @@ pub extern "C" fn birdaghol_capture_read(
 
 // Whether the order of two words matters: both are outer products that decode accepts, and their tiles share rows and differ in
 // width.
-#[unsafe(no_mangle)]
-pub extern "C" fn birdaghol_order_matters(flags: u32, a: u32, b: u32) -> bool
+pub fn birdaghol_order_matters(flags: u32, a: u32, b: u32) -> bool
     ensures { result ≡ order_matters flags a b }
 {
     pairs::order_matters(flags, a, b)
