@@ -57,11 +57,14 @@ module _ (b : Bench) (ws z p za : List ℕ) where
   pub run_told : (left room : List ℕ) {next : List ℕ} {e : Ended} {a : Written} → left ≡ (run_left (on b z p za) ws).za → e ≡ run_of (on b z p za) ws
       → a ≡ write_of (capture_of b ws z p left) (length room) → next ≡ room_written (capture_of b ws z p left) room
       → (let c = capture_of b ws z p (run_left (on b z p za) ws).za in
-      (told b (length ws) e a ≡ told b (length ws) (run_of (on b z p za) ws) (write_of c (length room))) × (next ≡ room_written c room))
-  run_told left room l e a n = (
-    ap₂ (λ (e : Ended) (a : Written). told b (length ws) e a) e (a ∙ ap (λ (za : List ℕ). write_of (capture_of b ws z p za) (length room)) l),
-    n ∙ ap (λ (za : List ℕ). room_written (capture_of b ws z p za) room) l,
-  )
+      record {
+        answer : told b (length ws) e a ≡ told b (length ws) (run_of (on b z p za) ws) (write_of c (length room));
+        room_after : next ≡ room_written c room;
+      })
+  run_told left room l e a n = record {
+    answer = ap₂ (λ (e : Ended) (a : Written). told b (length ws) e a) e (a ∙ ap (λ (za : List ℕ). write_of (capture_of b ws z p za) (length room)) l);
+    room_after = n ∙ ap (λ (za : List ℕ). room_written (capture_of b ws z p za) room) l;
+  }
 
 -- what was run has a vector length
 pub ran-length : {file room next : List ℕ} {r : Replayed} {b : Bench} {n l : ℕ} {e : Ended} → Replays file room r next → r ≡ Ran b n e l → (0 < b.vb) × (b.vb ≤ 256)

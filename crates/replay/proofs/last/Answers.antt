@@ -2,23 +2,18 @@
 use mathlib.Core.Path.{◌≡◌, ap}
 use Prim.Native.Nat.{ℕ, ◌-◌}
 use native.Mathlib.Omega.{arith}
-use borrow.Author.Rules.{rules}
 use lib.ListN.{length, drop, length-drop}
 use lib.Seq.{take_all}
-use Rattle.replay.proofs.last.Statement.{statement}
-use Rattle.replay.proofs.last.Tie as tie
+use Rattle.replay.proofs.last.Goals as goal
 
-returns : tie.Need-returns
-returns c =
-    let a = c.before.before.args in
+pub returns-then-n-bytes : goal.returns-then-n-bytes
+returns-then-n-bytes c =
+    let a = c.args in
     let l = length-drop (length a.bytes.now - a.n) a.bytes.now in
     take_all (length a.bytes.now - (length a.bytes.now - a.n)) (drop (length a.bytes.now - a.n) a.bytes.now) (omega arith)
 
-returns-2 : tie.Need-returns-2
-returns-2 c =
-    let a = c.before.args in
+pub returns : goal.returns
+returns c =
+    let a = c.args in
     let e : 0 ≡ length a.bytes.now - a.n = omega arith in
     ap (λ (k : ℕ). drop k a.bytes.now) e
-
-pub last_spec : {M : Type 1} → statement M
-last_spec = tie.close (tie.spec (λ c. search rules) (λ c. search rules) (λ c. search rules) (λ c. search rules) returns returns-2)
