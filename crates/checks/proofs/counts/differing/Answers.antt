@@ -1,5 +1,5 @@
 -- `checks::counts::differing` meets its contract: after i turns, i places were compared. Assumes nothing.
-use Rattle.std.proofs.Common.{◌≡◌, ◌-◌, length, refl, ◌∙◌, add-one, arith}
+use Rattle.std.proofs.Common.{◌≡◌, length, refl, ◌∙◌, add-one, arith}
 use Rattle.checks.proofs.counts.differing.Goals as goal
 
 pub loop-i-init : goal.loop-i-init

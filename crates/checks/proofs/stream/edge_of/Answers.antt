@@ -1,5 +1,4 @@
 -- `checks::stream::edge_of` meets its contract: each arm is the case that its number decides. Assumes nothing.
-use Rattle.std.proofs.Common.{ne_eqb}
 use Rattle.checks.proofs.stream.edge_of.Goals as goal
 
 pub returns-in-0 : goal.returns-in-0

@@ -1,5 +1,5 @@
 -- `checks::stream::generate` meets its contract: the bytes written and those to come are the stream. Assumes nothing.
-use Rattle.std.proofs.Common.{◌≡◌, ◌-◌, ◌<◌, length, sym, refl, ◌∙◌, arith, length-set}
+use Rattle.std.proofs.Common.{◌≡◌, ◌<◌, length, sym, refl, ◌∙◌, arith, length-set}
 use native.Mathlib.Nat.{sub-zero}
 use Rattle.checks.proofs.Streams.{stood_more, streamed_more, stood-ends, streamed-ends}
 use Rattle.checks.proofs.stream.generate.Goals as goal

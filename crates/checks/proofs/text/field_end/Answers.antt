@@ -1,5 +1,5 @@
 -- `checks::text::field_end` meets its contract: what is left of the field ends where the whole does. Assumes nothing.
-use Rattle.std.proofs.Common.{◌-◌, refl, arith}
+use Rattle.std.proofs.Common.{refl, arith}
 use Rattle.checks.proofs.Texts.{field-ends, field_more, field-over}
 use Rattle.checks.proofs.text.field_end.Goals as goal
 

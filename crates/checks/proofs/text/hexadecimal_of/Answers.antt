@@ -1,5 +1,5 @@
 -- `checks::text::hexadecimal_of` meets its contract: what is left gives what the whole gives. Assumes nothing.
-use Rattle.std.proofs.Common.{◌-◌, refl, ◌∙◌, arith}
+use Rattle.std.proofs.Common.{refl, ◌∙◌, arith}
 use Rattle.checks.proofs.Texts.{no_digit, digit_more, number-ends}
 use Rattle.checks.proofs.text.hexadecimal_of.Goals as goal
 
