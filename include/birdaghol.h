@@ -1,6 +1,6 @@
 /* Birdaghol for C: Arm SME integer outer products, decoded, encoded, printed, read and replayed, and kept in capture
    files, by proved code.
-   Link target/staticlib/libbirdaghol.a, which `rt staticlib birdaghol` writes, into programs for x86-64.
+   Link target/staticlib/libbirdaghol.a, which `tools/build birdaghol_c` writes, into programs for x86-64.
 
    Flags are the sum of the features that are on: 1 SME, 2 I16I64, 4 MOP4, 8 SME2. vb is the vector length in bytes.
    z has 32 * vb bytes, register by register; p has 2 * vb bytes, 16 predicates of one bit for each vector byte, lowest

@@ -1,4 +1,4 @@
-//! Links the proved static library, where `rt staticlib birdaghol` leaves it.
+//! Links the proved static library, where `tools/build birdaghol_c` leaves it.
 
 use std::env;
 use std::path::Path;
@@ -13,6 +13,6 @@ fn main() {
         println!("cargo::rustc-link-search=native={}", folder.display());
         println!("cargo::rustc-link-lib=static=birdaghol");
     } else {
-        println!("cargo::error={} is missing: run `rt staticlib birdaghol` in the repository first", archive.display());
+        println!("cargo::error={} is missing: run `tools/build birdaghol_c` in the repository first", archive.display());
     }
 }

@@ -1,4 +1,4 @@
-//! Holds the program `lister`, which `rt check lister` leaves in target/bin, against the independent implementation: words in
+//! Holds the program `lister`, which `tools/build lister` leaves in target/bin, against the independent implementation: words in
 //! pieces of random sizes, as a pipe hands them over.
 
 #[allow(dead_code, unused_imports)]

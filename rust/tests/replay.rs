@@ -1,4 +1,4 @@
-//! Holds the program `replay`, which `rt check replay` leaves in target/bin, against the independent implementation: the
+//! Holds the program `replay`, which `tools/build replay` leaves in target/bin, against the independent implementation: the
 //! capture that it writes, and its report.
 
 #[allow(dead_code, unused_imports)]

@@ -1,4 +1,4 @@
-//! The programs, which `rt check` leaves in target/bin.
+//! The programs, which `tools/build` leaves in target/bin.
 
 use std::io::Write;
 use std::os::fd::OwnedFd;
@@ -11,7 +11,7 @@ pub fn start(name: &str) -> Child {
     let program = path(name);
     let mut command = Command::new(&program);
     let child = command.stdin(Stdio::piped()).stdout(Stdio::piped()).stderr(Stdio::piped()).spawn();
-    child.unwrap_or_else(|e| panic!("{}: {e}: run `rt check {name}` first", program.display()))
+    child.unwrap_or_else(|e| panic!("{}: {e}: run `tools/build {name}` first", program.display()))
 }
 
 /// What a program writes where a read fails behind these bytes, of which there are few.
