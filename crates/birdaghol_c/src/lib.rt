@@ -9,7 +9,7 @@ ghost use Rattle.machine.specs.Lists.{run_left};
 ghost use Rattle.pairs.specs.Order.{order_matters};
 ghost use Rattle.capture.specs.Format.{capture_of};
 ghost use Rattle.capture.specs.Outcomes.{room_written, buffers};
-ghost use Rattle.birdaghol.specs.Calls.{answer, decode_call, print_call, read_call, predicated_call, quarter_call, zero_call, bench_of, execute_call, run_call};
+ghost use Rattle.birdaghol.specs.Calls.{decode_call, print_call, read_call, predicated_call, quarter_call, zero_call, bench_of, execute_call, run_call};
 ghost use Rattle.birdaghol.specs.Captures.{capture_write_call, CaptureReads};
 ghost use Rattle.birdaghol.specs.Fields.{describe_call, fields_after};
 

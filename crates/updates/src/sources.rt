@@ -32,7 +32,7 @@ fn one_sign32(t: Tally, c: Case, byte: usize) -> Tally {
     )
 }
 
-// All halfwords FFFF: four times 1, -FFFF or FFFF.FFFF = FFFE0001; subtracted, the negatives.
+// All halfwords FFFF: four times 1, -FFFF or FFFF·FFFF = FFFE0001; subtracted, the negatives.
 pub(crate) fn signs64(t: Tally, c: Case, byte: usize) -> Tally {
     let mut t = t;
     t = all_ff(t, c, byte, 0x4);

@@ -21,7 +21,7 @@ pub(crate) fn all(t: Tally) -> Tally {
     pairs(t, q)
 }
 
-// All halfwords FFFF: twice 1, or FFFF.FFFF = FFFE0001, modulo 2^32; second source 0202: twice -202 or 201FDFE.
+// All halfwords FFFF: twice 1, or FFFF·FFFF = FFFE0001, modulo 2^32; second source 0202: twice -202 or 201FDFE.
 fn signs(t: Tally, c: Case) -> Tally {
     let mut t = t;
     let u = bench::with_signs(c, true, true);
