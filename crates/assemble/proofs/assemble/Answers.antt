@@ -35,11 +35,10 @@ loop-at-preserved c =
     let t = c.args.text.now in
     let e = c.field_end-end in
     let l = c.loop-at in
-    let k = c.take_line-counts in
-    (
+    let k = c.take_line-counts in (
       omega arith,
       counted words_after _ _ t l.at e.result (omega arith) e.ensures.answer k.ensures.words l.invariant.1,
-      counted refused_after _ _ t l.at e.result (omega arith) e.ensures.answer k.ensures.refused l.invariant.2
+      counted refused_after _ _ t l.at e.result (omega arith) e.ensures.answer k.ensures.refused l.invariant.2,
     )
 
 pub returns : goal.returns

@@ -1,6 +1,5 @@
 -- `assemble::is_blank` meets its contract: after i turns, the line is blank if the rest is. Assumes nothing.
 use mathlib.Core.Path.{◌∙◌, sym, refl}
-use Prim.Native.Nat.{◌-◌}
 use native.Mathlib.Omega.{arith}
 use Rattle.assemble.proofs.Kernel.{blank_more, not-blank, blank-over}
 use Rattle.assemble.proofs.is_blank.Goals as goal

@@ -1,5 +1,5 @@
 -- `assemble::take_line` meets its contract, by what comes of the line. Assumes nothing.
-use mathlib.Core.Path.{◌∙◌, sym, refl}
+use mathlib.Core.Path.{◌∙◌, sym}
 use Rattle.assemble.proofs.take_line.Goals as goal
 
 pub returns-in-LeftOut : goal.returns-in-LeftOut
