@@ -1,5 +1,5 @@
 // What a word means: its line of the table, found by the fixed bits, and the description that the line makes of its fields.
-ghost use Rattle.std.specs.Prelude.{◌≡◌, not, cond, eqb, ltb, ◌/◌, ◌%◌, ◌<◌, ◌≤◌};
+ghost use Rattle.std.specs.Prelude.{◌≡◌, true, not, cond, eqb, ltb, ◌/◌, ◌%◌, ◌<◌, ◌≤◌};
 ghost use Rattle.std.proofs.Math.Option.{none};
 ghost use Rattle.isa.specs.Row.{matches, field_of};
 ghost use Rattle.isa.specs.Table.{predicated32, predicated64, quarter32, quarter64, zero8, predicated_two_way, quarter_two_way, table, all_flags, lacking as lacking_of, predicated, quarter, described, operation_of_fields, source, element_bytes, tiles_of};
@@ -40,6 +40,9 @@ pub fn decode(flags: u32, word: u32) -> Decoded
     if !flags_legal(flags) {
         return Decoded::Refused(Refusal::Flags);
     }
+    if is_far(word) {
+        return Decoded::Refused(Refusal::Unlisted);
+    }
     let line = line_of(word);
     if lacking(flags, line) != 0 {
         return Decoded::Refused(feature_off(flags, line));
@@ -56,6 +59,9 @@ pub fn check(flags: u32, word: u32) -> Checked
     if !flags_legal(flags) {
         return Checked::Refused(Refusal::Flags);
     }
+    if is_far(word) {
+        return Checked::Refused(Refusal::Unlisted);
+    }
     let line = line_of(word);
     if lacking(flags, line) != 0 {
         return Checked::Refused(feature_off(flags, line));
@@ -63,13 +69,17 @@ pub fn check(flags: u32, word: u32) -> Checked
     check_line(line)
 }
 
-// The line that a word matches. Most words differ from every line in the four bits that are tested first.
+// Whether a word differs from every line in four bits. Most words do, and are done with by this test.
+fn is_far(word: u32) -> bool
+    ensures { result ≡ true → lookup table word ≡ none }
+{
+    (word >> 25) % 16 != 0
+}
+
+// The line that a word matches.
 fn line_of(word: u32) -> Line
     ensures { entry_for result ≡ lookup table word }
 {
-    if (word >> 25) % 16 != 0 {
-        return Line::Unlisted;
-    }
     if is_predicated32(word) {
         return Line::Predicated32;
     }

@@ -7,7 +7,7 @@ use Rattle.isa.specs.Table.{Entry}
 use Rattle.isa.specs.Answers.{described_by, decided, decoded_refusal, decode_refusal, decode_number, decode_missing, checked_refusal}
 use Rattle.isa.specs.Lines.{entry_for, checked_line}
 use Rattle.isa.specs.declared.Refusal.{Refusal}
-use Rattle.isa.proofs.Answers.{flags_fit, flags_exceed, decode_flags, decode_lacking, decode_open}
+use Rattle.isa.proofs.Answers.{flags_fit, flags_exceed, decode_flags, decode_unlisted, decode_lacking, decode_open}
 use Rattle.isa.proofs.decoder.check.Goals as goal
 
 -- a refusal that is the definition's has its number and its sum
@@ -26,6 +26,10 @@ pub returns-then-not-flags_legal : goal.returns-then-not-flags_legal
 returns-then-not-flags_legal c =
     answers _ _
     (sym (ap decoded_refusal (decode_flags _ _ (flags_exceed c.flags_legal.ensures c.if-not-flags_legal.true))))
+
+pub returns-then-is_far : goal.returns-then-is_far
+returns-then-is_far c =
+    answers _ _ (sym (ap decoded_refusal (decode_unlisted _ _ (flags_fit c.flags_legal.ensures c.if-not-flags_legal.false) (c.is_far.ensures c.if-is_far.true))))
 
 pub returns-then-lacking-ne0 : goal.returns-then-lacking-ne0
 returns-then-lacking-ne0 c =

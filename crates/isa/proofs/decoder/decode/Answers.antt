@@ -4,7 +4,7 @@ use Prim.Native.Nat.{ℕ}
 use Rattle.isa.specs.Answers.{decode_of, decoded_number, decoded_missing, decode_number, decode_missing}
 use Rattle.isa.specs.declared.Decoded.{Decoded}
 use Rattle.isa.specs.declared.Decoded.TheVariants.{Refused as NotDecoded}
-use Rattle.isa.proofs.Answers.{flags_fit, flags_exceed, decode_flags, decode_lacking, decode_open}
+use Rattle.isa.proofs.Answers.{flags_fit, flags_exceed, decode_flags, decode_unlisted, decode_lacking, decode_open}
 use Rattle.isa.proofs.decoder.decode.Goals as goal
 
 -- an answer that is the definition's has its number and its sum
@@ -17,6 +17,10 @@ answers flags w p = record { answer = p; number = ap decoded_number p; missing =
 
 pub returns-then-not-flags_legal : goal.returns-then-not-flags_legal
 returns-then-not-flags_legal c = answers _ _ (sym (decode_flags _ _ (flags_exceed c.flags_legal.ensures c.if-not-flags_legal.true)))
+
+pub returns-then-is_far : goal.returns-then-is_far
+returns-then-is_far c =
+    answers _ _ (sym (decode_unlisted _ _ (flags_fit c.flags_legal.ensures c.if-not-flags_legal.false) (c.is_far.ensures c.if-is_far.true)))
 
 pub returns-then-lacking-ne0 : goal.returns-then-lacking-ne0
 returns-then-lacking-ne0 c =

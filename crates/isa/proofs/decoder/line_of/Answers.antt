@@ -8,7 +8,6 @@ use Prim.Native.Nat.{ℕ}
 use Rattle.isa.specs.Row.{matches}
 use Rattle.isa.specs.Table.{Entry, table}
 use Rattle.isa.specs.Answers.{lookup}
-use Rattle.isa.proofs.Lookup.{lookup-clear}
 use Rattle.isa.proofs.decoder.line_of.Goals as goal
 
 -- no line of the table before es matches
@@ -24,9 +23,6 @@ hit l p q = sym (l.is ∙ rw (sym p ∙ q))
 -- before the first test the whole table is left
 whole : (w : ℕ) → Left table w
 whole w = record { is = refl }
-
-pub returns-then-word-ne0 : goal.returns-then-word-ne0
-returns-then-word-ne0 c = sym (lookup-clear c.args.word c.if-word-ne0.true)
 
 pub returns-then-is_predicated32 : goal.returns-then-is_predicated32
 returns-then-is_predicated32 c = hit (whole c.args.word) c.is_predicated32.ensures c.if-is_predicated32.true
