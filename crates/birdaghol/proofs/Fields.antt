@@ -8,6 +8,7 @@ use native.Mathlib.Omega.{arith}
 use lib.Dec.{eqb, ltb}
 use lib.ListN.{length, take, drop}
 use lib.Seq.{take-append_seam, drop-append_seam}
+use Rattle.std.specs.Prelude.{Err, Ok}
 use Rattle.isa.specs.Refusals.{first_failure}
 use Rattle.isa.specs.Table.{bit, one?, register, element_bytes, products_of}
 use Rattle.isa.specs.Answers.{describe, decode_of}
@@ -17,8 +18,6 @@ use Rattle.isa.specs.declared.Instruction.{Instruction}
 use Rattle.isa.specs.declared.Instruction.TheVariants.{Predicated, Quarter, Zero}
 use Rattle.isa.specs.declared.Refusal.{Refusal}
 use Rattle.isa.specs.declared.Refusal.TheVariants.{Room}
-use Rattle.isa.specs.declared.Decoded.TheVariants.{Accepted, Refused as NotDecoded}
-use Rattle.isa.specs.declared.Encoded.TheVariants.{Word}
 use Rattle.isa.proofs.Answers.{decode_passed, room_refused, room_passed, encode_in_range}
 use Rattle.isa.proofs.Sums.{handed, room_fair}
 use Rattle.isa.proofs.Lines.{one_bit, source_back}
@@ -35,7 +34,7 @@ numbers_length (Quarter op tile first second) = refl
 numbers_length (Zero mask) = refl
 
 -- ---- by decode's answer
-module _ (flags w : ℕ) (i : Instruction) (p : decode_of flags w ≡ Accepted i) where
+module _ (flags w : ℕ) (i : Instruction) (p : decode_of flags w ≡ Ok i) where
   accepted-tests : (n : ℕ) → first_failure (describe_tests flags w n) ≡ cond (ltb n field_count) (some Room) none
   accepted-tests n = room_passed flags w n (length (numbers_in (describe w))) i p ∙ rw ((decode_passed flags w i p).1, numbers_length i)
 
@@ -49,7 +48,7 @@ module _ (flags w : ℕ) (i : Instruction) (p : decode_of flags w ≡ Accepted i
       go true = refl
       go false = rw (numbers_length i)
 
-module _ (flags w : ℕ) (r : Refusal) (p : decode_of flags w ≡ NotDecoded r) where
+module _ (flags w : ℕ) (r : Refusal) (p : decode_of flags w ≡ Err r) where
   pub call_refused : (n : ℕ) → describe_call flags w n ≡ answer 0 (some r)
   call_refused n = rw (room_refused flags w n (length (numbers_in (describe w))) r p)
 
@@ -93,13 +92,13 @@ pub record Described (w : ℕ) (numbers : List ℕ) : Type 0 where
   pub count : length numbers ≡ field_count
   pub encodes : w < 2 ^ 32 → (rest : List ℕ) → encode_numbers (numbers ++ rest) ≡ answer w none
 
-pub numbers_described : (flags w : ℕ) (i : Instruction) → decode_of flags w ≡ Accepted i → Described w (numbers_in (describe w))
+pub numbers_described : (flags w : ℕ) (i : Instruction) → decode_of flags w ≡ Ok i → Described w (numbers_in (describe w))
 numbers_described flags w i p =
     let d = (decode_passed flags w i p).1 in
     rw d
     (record {
       count = numbers_length i;
-      encodes = λ h rest. let (r, e) = described_is w i h d in encoded_again i rest ∙ ap packed_encoded (encode_in_range i r ∙ ap Word e);
+      encodes = λ h rest. let (r, e) = described_is w i h d in encoded_again i rest ∙ ap packed_encoded (encode_in_range i r ∙ ap Ok e);
     })
 
 -- ---- what is left of such an outcome

@@ -9,8 +9,9 @@ use native.Mathlib.Omega.{arith}
 use lib.Dec.{eqb}
 use lib.ListN.{length}
 use borrow.Author.Tests.{eqb-true, ltb-true, leb-true, eq-eqb, lt-ltb, le-leb}
+use Rattle.std.specs.Prelude.{Err, Ok, Result}
 use Rattle.isa.specs.Table.{bit, is_formed, ranges, in_range}
-use Rattle.isa.specs.Refusals.{number, refusal_number, refusal_missing, first_failure}
+use Rattle.isa.specs.Refusals.{number, refusal_number, refusal_missing, first_failure, number_in, refusal_in, value_in}
 use Rattle.isa.specs.Answers.{describe, decode_refusal}
 use Rattle.isa.specs.Claims.{OnlyWord}
 use Rattle.isa.specs.declared.Instruction.{Instruction}
@@ -22,20 +23,18 @@ use Rattle.isa.specs.declared.Refusal.{Refusal}
 use Rattle.isa.proofs.Sums.{plain_sum}
 use Rattle.isa.proofs.Answers.{encode_out_of_range}
 use Rattle.isa.proofs.Theorems.{decodes, encodes}
-use Rattle.text.specs.Printing.{print_of, printed_refusal, printed_length}
+use Rattle.text.specs.Printing.{print_of}
 use Rattle.text.proofs.Theorems.{prints, put_outcome, accepts, same, gives_12, known, unchanged}
 use Rattle.text.specs.Spelling.{Text}
-use Rattle.reader.specs.Answers.{read_of, reading_refusal, reading_word}
+use Rattle.reader.specs.Answers.{read_of}
 use Rattle.reader.proofs.Theorems.{reads}
-use Rattle.machine.specs.Execution.{refusal_of, outcome_refusal}
+use Rattle.machine.specs.Execution.{refusal_of}
 use Rattle.machine.specs.Lists.{run_of}
 use Rattle.machine.specs.Machine.{Machine}
 use Rattle.machine.proofs.Tests.{outcome_back}
 use Rattle.machine.proofs.Theorems.{executes, runs}
 use Rattle.capture.specs.Format.{Capture, modes, bytes_of_capture}
-use Rattle.capture.specs.Outcomes.{write_tests, written, write_of, written_number, written_length, Buffers, Reads}
-use Rattle.capture.specs.declared.Reading.{Reading}
-use Rattle.capture.specs.declared.Reading.TheVariants.{Contents, Refused as NotRead}
+use Rattle.capture.specs.Outcomes.{write_tests, written, write_of, Buffers, Reads}
 use Rattle.capture.proofs.Captures.{modes-most}
 use Rattle.capture.proofs.Theorems.{contents_small, refused_plain}
 use Rattle.birdaghol.specs.Captures.{packed_written, contents_number, packed_contents, CaptureReads}
@@ -61,26 +60,26 @@ describe_unpacks flags w places = unpacks 0 (describe_refusal flags w places) (s
 pub print_unpacks : (flags w : ℕ) (room : List ℕ) → PrintUnpacks flags w (length room)
 print_unpacks flags w room =
     let a = print_of flags w (length room) in
-    unpacks (printed_length a) (printed_refusal a) (sum_fits (prints flags w room).hands_back)
+    unpacks (value_in a) (refusal_in a) (sum_fits (prints flags w room).hands_back)
 
 pub read_unpacks : (flags : ℕ) (t : Text) → ReadUnpacks flags t
 read_unpacks flags t =
     let r = reads flags t in
-    unpacks (reading_word (read_of flags t)) (reading_refusal (read_of flags t))
+    unpacks (value_in (read_of flags t)) (refusal_in (read_of flags t))
     (sum_below (λ e. let (w, s, f) = (r.gives_8.0 e).1 in sum_fits (r.hands_back w s)) r.no_sum)
 
 pub execute_unpacks : (m : Machine) (w : ℕ) → ExecuteUnpacks m w
 execute_unpacks m w = let o = refusal_of m w in rw (outcome_back o) (unpacks 0 o (rw (outcome_back o) at (sum_fits (executes m w).hands_back)))
 
 pub run_unpacks : (m : Machine) (ws : List ℕ) → RunUnpacks m ws
-run_unpacks m ws = unpacks (run_of m ws).count (outcome_refusal (run_of m ws).outcome) (sum_fits (runs m ws).hands_back)
+run_unpacks m ws = unpacks (run_of m ws).count (refusal_in (run_of m ws).outcome) (sum_fits (runs m ws).hands_back)
 
 -- ---- capture files
 pub capture_write_unpacks : (c : Capture) (room : ℕ) → CaptureWriteUnpacks c room
 unfolding write_of
 capture_write_unpacks c room = go (first_failure (write_tests c room)) (plain_sum (write_tests c room) refl)
   where
-    go : (o : Option Refusal) → refusal_missing o ≡ 0 → Unpacks (packed_written (written o (length (bytes_of_capture c)))) (written_length (written o (length (bytes_of_capture c)))) 0 (written_number (written o (length (bytes_of_capture c))))
+    go : (o : Option Refusal) → refusal_missing o ≡ 0 → Unpacks (packed_written (written o (length (bytes_of_capture c)))) (value_in (written o (length (bytes_of_capture c)))) 0 (number_in (written o (length (bytes_of_capture c))))
     go none e = unpacks (length (bytes_of_capture c)) none (omega arith)
     go (some r) e = subst (λ m. Unpacks (answer 0 (some r)) 0 m (number r)) e (unpacks 0 (some r) (rw e (omega arith)))
 
@@ -91,12 +90,12 @@ contents_unpack f m v words a b c = (omega arith, omega arith, omega arith, omeg
 pub capture_read_unpacks : (file : List ℕ) (before after : Buffers) (n : ℕ) (h : CaptureReads file before n after) → CaptureReadUnpacks n h.reading
 capture_read_unpacks file before after n h = go h.reading h.reads h.is
   where
-    go : (r : Reading) → Reads file before r after → n ≡ packed_contents r → CaptureReadUnpacks n r
-    go (Contents b words) q e =
+    go : (r : Result Ok Refusal) → Reads file before r after → n ≡ packed_contents r → CaptureReadUnpacks n r
+    go (Ok b words) q e =
         let (f, v, w) = contents_small q in
         let (x, y, z, u) = contents_unpack b.flags (modes b.sm b.za) b.vb words f (modes-most b.sm b.za) v in
         (subst (λ n. Unpacks n (contents_number b words) 0 0) (sym e) (unpacks (contents_number b words) none (omega arith)), record { flags_is = x; modes_is = y; vb_is = z; words_is = u })
-    go (NotRead r) q e =
+    go (Err r) q e =
         let m = refused_plain q in
         subst (λ n. Unpacks n 0 0 (number r)) (sym e) (subst (λ m. Unpacks (answer 0 (some r)) 0 m (number r)) m (unpacks 0 (some r) (rw m (omega arith))))
 

@@ -1,24 +1,21 @@
 -- What each exported function answers, as one number: value · 65,536 + missing · 256 + refusal (document 02, C-15).
-use Rattle.std.specs.Prelude.{Bool, cond, ◌&&◌, ◌||◌, List, ℕ, ◌+◌, ◌*◌, eqb}
+use Rattle.std.specs.Prelude.{Bool, cond, ◌&&◌, ◌||◌, List, ℕ, ◌+◌, ◌*◌, eqb, Result}
 use Rattle.std.proofs.Math.Option.{Option, none, some}
-use Rattle.isa.specs.Refusals.{refusal_number, refusal_missing}
-use Rattle.isa.specs.Answers.{decode_refusal, encode_of, encoded_refusal, encoded_word}
+use Rattle.isa.specs.Refusals.{refusal_number, refusal_missing, refusal_in, value_in}
+use Rattle.isa.specs.Answers.{decode_refusal, encode_of}
 use Rattle.isa.specs.declared.Operation.{Operation}
 use Rattle.isa.specs.declared.Instruction.{Instruction}
 use Rattle.isa.specs.declared.Instruction.TheVariants.{Predicated, Quarter, Zero}
-use Rattle.isa.specs.declared.Encoded.{Encoded}
 use Rattle.isa.specs.declared.Refusal.{Refusal}
 use Rattle.isa.specs.declared.Refusal.TheVariants.{OutOfRange}
 use Rattle.isa.specs.Table.{source}
-use Rattle.text.specs.Printing.{print_of, printed_refusal, printed_length}
-use Rattle.text.specs.declared.Printed.{Printed}
+use Rattle.text.specs.Printing.{print_of}
 use Rattle.text.specs.Spelling.{Text}
-use Rattle.reader.specs.Answers.{read_of, reading_refusal, reading_word}
-use Rattle.reader.specs.declared.Reading.{Reading}
+use Rattle.reader.specs.Answers.{read_of}
 use Rattle.machine.specs.declared.Bench.{Bench}
 use Rattle.machine.specs.declared.Ended.{Ended}
 use Rattle.machine.specs.Machine.{Machine}
-use Rattle.machine.specs.Execution.{refusal_of, outcome_refusal}
+use Rattle.machine.specs.Execution.{refusal_of}
 use Rattle.machine.specs.Lists.{run_of}
 
 abbrev pub packed : ℕ → ℕ → ℕ → ℕ
@@ -33,15 +30,15 @@ abbrev pub decode_call : ℕ → ℕ → ℕ
 decode_call flags w = answer 0 (decode_refusal flags w)
 
 -- ---- print
-abbrev pub packed_printed : Printed → ℕ
-packed_printed a = answer (printed_length a) (printed_refusal a)
+abbrev pub packed_printed : Result ℕ Refusal → ℕ
+packed_printed a = answer (value_in a) (refusal_in a)
 
 abbrev pub print_call : ℕ → ℕ → ℕ → ℕ
 print_call flags w room = packed_printed (print_of flags w room)
 
 -- ---- read
-abbrev pub packed_reading : Reading → ℕ
-packed_reading a = answer (reading_word a) (reading_refusal a)
+abbrev pub packed_reading : Result ℕ Refusal → ℕ
+packed_reading a = answer (value_in a) (refusal_in a)
 
 abbrev pub read_call : ℕ → Text → ℕ
 read_call flags t = packed_reading (read_of flags t)
@@ -63,8 +60,8 @@ abbrev pub asked_quarter : ℕ → ℕ → Bool → Bool → Bool → ℕ → �
 asked_quarter bytes products u0 u1 subtract tile first first_pair second second_pair =
     Quarter (operation bytes products u0 u1 subtract) (record { 0 = tile }) (source first_pair first) (source second_pair second)
 
-abbrev pub packed_encoded : Encoded → ℕ
-packed_encoded a = answer (encoded_word a) (encoded_refusal a)
+abbrev pub packed_encoded : Result ℕ Refusal → ℕ
+packed_encoded a = answer (value_in a) (refusal_in a)
 
 abbrev pub encode_call : Option Instruction → ℕ
 encode_call none = answer 0 (some OutOfRange)
@@ -90,7 +87,7 @@ execute_call m w = answer 0 (refusal_of m w)
 
 -- the count stands beside a refusal too
 abbrev pub packed_ended : Ended → ℕ
-packed_ended e = answer e.count (outcome_refusal e.outcome)
+packed_ended e = answer e.count (refusal_in e.outcome)
 
 abbrev pub run_call : Machine → List ℕ → ℕ
 run_call m ws = packed_ended (run_of m ws)

@@ -1,17 +1,15 @@
 -- What the functions on capture files answer (document 02, C-20).
-use Rattle.std.specs.Prelude.{◌≡◌, List, ℕ, ◌+◌, ◌*◌}
+use Rattle.std.specs.Prelude.{◌≡◌, List, ℕ, ◌+◌, ◌*◌, Err, Ok, Result}
 use Rattle.std.proofs.Math.Option.{none, some}
+use Rattle.isa.specs.Refusals.{refusal_in, value_in}
 use Rattle.machine.specs.declared.Bench.{Bench}
 use Rattle.capture.specs.Format.{Capture, modes}
-use Rattle.capture.specs.Outcomes.{write_of, written_refusal, written_length, Buffers, Reads}
-use Rattle.capture.specs.declared.Written.{Written}
-use Rattle.capture.specs.declared.Reading.{Reading}
-use Rattle.capture.specs.declared.Reading.TheVariants.{Contents, Refused}
+use Rattle.capture.specs.Outcomes.{write_of, Buffers, Reads}
 use Rattle.birdaghol.specs.Calls.{answer}
 
 -- ---- write: the length
-abbrev pub packed_written : Written → ℕ
-packed_written a = answer (written_length a) (written_refusal a)
+abbrev pub packed_written : Result ℕ Refusal → ℕ
+packed_written a = answer (value_in a) (refusal_in a)
 
 abbrev pub capture_write_call : Capture → ℕ → ℕ
 capture_write_call c room = packed_written (write_of c room)
@@ -20,12 +18,12 @@ capture_write_call c room = packed_written (write_of c room)
 abbrev pub contents_number : Bench → ℕ → ℕ
 contents_number b words = words * 65536 + b.vb * 64 + modes b.sm b.za * 16 + b.flags
 
-abbrev pub packed_contents : Reading → ℕ
-packed_contents (Contents b words) = answer (contents_number b words) none
-packed_contents (Refused r) = answer 0 (some r)
+abbrev pub packed_contents : Result Ok Refusal → ℕ
+packed_contents (Ok b words) = answer (contents_number b words) none
+packed_contents (Err r) = answer 0 (some r)
 
 -- read's outcome, packed
 pub record CaptureReads (file : List ℕ) (before : Buffers) (n : ℕ) (after : Buffers) : Type 0 where
-  pub reading : Reading
+  pub reading : Result Ok Refusal
   pub reads : Reads file before reading after
   pub is : n ≡ packed_contents reading

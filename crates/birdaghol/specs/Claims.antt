@@ -1,6 +1,6 @@
 -- What a caller reads off an answer; proofs/Theorems.antt proves it for every call.
-use Rattle.std.specs.Prelude.{◌≡◌, Bool, ◌↔◌, ◌⊎◌, List, ℕ, ◌/◌, ◌%◌, ◌^◌, ◌≤◌, ◌<◌, length, take, drop}
-use Rattle.isa.specs.Refusals.{number}
+use Rattle.std.specs.Prelude.{◌≡◌, Bool, ◌↔◌, ◌⊎◌, List, ℕ, ◌/◌, ◌%◌, ◌^◌, ◌≤◌, ◌<◌, length, take, drop, Err, Ok, Result}
+use Rattle.isa.specs.Refusals.{number, number_in, value_in}
 use Rattle.isa.specs.Answers.{describe, decode_number, decode_missing}
 use Rattle.isa.specs.Claims.{HandsBack, OnlyWord}
 use Rattle.isa.specs.declared.Instruction.{Instruction}
@@ -12,9 +12,7 @@ use Rattle.machine.specs.Claims.{execute_number, execute_missing, run_number, ru
 use Rattle.machine.specs.Machine.{Machine}
 use Rattle.machine.specs.declared.Bench.{Bench}
 use Rattle.capture.specs.Format.{Capture, modes}
-use Rattle.capture.specs.Outcomes.{write_of, written_number, written_length}
-use Rattle.capture.specs.declared.Reading.{Reading}
-use Rattle.capture.specs.declared.Reading.TheVariants.{Contents, Refused}
+use Rattle.capture.specs.Outcomes.{write_of}
 use Rattle.birdaghol.specs.Calls.{decode_call, print_call, read_call, asked_predicated, asked_quarter, predicated_call, quarter_call, zero_call, execute_call, run_call}
 use Rattle.birdaghol.specs.Captures.{capture_write_call, contents_number}
 use Rattle.birdaghol.specs.Fields.{numbers_in, field_count, describe_number, describe_missing, describe_call, fields_after, encode_numbers}
@@ -45,7 +43,7 @@ RunUnpacks m ws = Unpacks (run_call m ws) (run_count m ws) (run_missing m ws) (r
 
 -- ---- capture files
 abbrev pub CaptureWriteUnpacks : Capture → ℕ → Type 0
-CaptureWriteUnpacks c room = Unpacks (capture_write_call c room) (written_length (write_of c room)) 0 (written_number (write_of c room))
+CaptureWriteUnpacks c room = Unpacks (capture_write_call c room) (value_in (write_of c room)) 0 (number_in (write_of c room))
 
 -- the value of a read: flags have four bits, modes two and VB ten, and the number of words stands above
 pub record ContentsUnpack (value : ℕ) (b : Bench) (words : ℕ) : Type 0 where
@@ -54,9 +52,9 @@ pub record ContentsUnpack (value : ℕ) (b : Bench) (words : ℕ) : Type 0 where
   pub vb_is : value / 64 % 1024 ≡ b.vb
   pub words_is : value / 65536 ≡ words
 
-abbrev pub CaptureReadUnpacks : ℕ → Reading → Type 0
-CaptureReadUnpacks n (Contents b words) = Unpacks n (contents_number b words) 0 0 × ContentsUnpack (contents_number b words) b words
-CaptureReadUnpacks n (Refused r) = Unpacks n 0 0 (number r)
+abbrev pub CaptureReadUnpacks : ℕ → Result Ok Refusal → Type 0
+CaptureReadUnpacks n (Ok b words) = Unpacks n (contents_number b words) 0 0 × ContentsUnpack (contents_number b words) b words
+CaptureReadUnpacks n (Err r) = Unpacks n 0 0 (number r)
 
 -- ---- encode: the arguments that are in range; there are as many tiles of a size as an element has bytes
 abbrev pub ElementSize : ℕ → Type 0

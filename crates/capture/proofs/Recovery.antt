@@ -7,6 +7,7 @@ use native.Mathlib.Omega.{arith}
 use lib.ListN.{length, drop}
 use lib.Seq.{drop-cons}
 use borrow.Author.Tests.{leb-true, le-leb}
+use Rattle.std.specs.Prelude.{Err, Ok}
 use Rattle.isa.specs.declared.Refusal.TheVariants.{Room, Version, Format}
 use Rattle.isa.proofs.Rows.{both}
 use Rattle.storage.specs.Sizes.{z_size, p_size, za_size}
@@ -18,16 +19,15 @@ use Rattle.capture.specs.Outcomes.Reads.{contents, another, malformed, too_long}
 use Rattle.capture.specs.Steps.{words_at, bytes_at, z_at, p_at, za_at, capture_at, Captured, Finds, long_enough}
 use Rattle.capture.specs.declared.Found.{Found}
 use Rattle.capture.specs.declared.Found.TheVariants.{Capture as Is, Nothing}
-use Rattle.capture.specs.declared.Reading.TheVariants.{Contents, Refused as NotRead}
 use Rattle.capture.proofs.Numbers.{length-words_at}
 
 -- ---- the first byte
-pub read_empty : (file : List ℕ) (b : Buffers) → length file ≡ 0 → Reads file b (NotRead Format) b
+pub read_empty : (file : List ℕ) (b : Buffers) → length file ≡ 0 → Reads file b (Err Format) b
 unfolding bytes_of_capture
 read_empty file b h =
     malformed (λ o. omega (arith, ap length o.is)) (record { never = λ c q. omega (arith, ap length q.bytes) }) refl refl
 
-pub read_another : (file : List ℕ) (b : Buffers) → 0 < length file → (at file 0 ≡ version → ⊥) → Reads file b (NotRead Version) b
+pub read_another : (file : List ℕ) (b : Buffers) → 0 < length file → (at file 0 ≡ version → ⊥) → Reads file b (Err Version) b
 read_another file b h d =
     another (record { first = at file 0; rest = drop 1 file; is = drop-cons file 0 0 h; other = d }) refl refl
 
@@ -38,7 +38,7 @@ this_version file e o = o.other (sym (ap (λ (l : List ℕ). at l 0) o.is) ∙ e
 pub is_capture : (file : List ℕ) (r : Found) (b : Bench) (n : ℕ) → Finds file r → r ≡ Is b n → Captured file b n
 is_capture file r b n q e = rw e at q
 
-pub read_nothing : (file : List ℕ) (b : Buffers) (r : Found) → at file 0 ≡ version → Finds file r → r ≡ Nothing → Reads file b (NotRead Format) b
+pub read_nothing : (file : List ℕ) (b : Buffers) (r : Found) → at file 0 ≡ version → Finds file r → r ≡ Nothing → Reads file b (Err Format) b
 read_nothing file b r v q e = malformed (this_version file v) (rw e at q) refl refl
 
 -- ---- whether the contents fit
@@ -69,7 +69,7 @@ module _ (file : List ℕ) (bench : Bench) (n : ℕ) (words z p za : List ℕ) (
   abbrev vb : ℕ
   vb = bench.vb
 
-  pub read_short : {t : Bool} → t ≡ long_enough n vb (length words) (length z) (length p) (length za) → t ≡ false → Reads file (buffers words z p za) (NotRead Room) (buffers words z p za)
+  pub read_short : {t : Bool} → t ≡ long_enough n vb (length words) (length z) (length p) (length za) → t ≡ false → Reads file (buffers words z p za) (Err Room) (buffers words z p za)
   read_short {t} h g = too_long c q.holds no_room refl refl
     where
       no_room : Fits c (buffers words z p za) → ⊥
@@ -92,7 +92,7 @@ module _ (file : List ℕ) (bench : Bench) (n : ℕ) (words z p za : List ℕ) (
       → z' ≡ bytes_at file (z_at n) (z_size vb) ++ drop (z_size vb) z
       → p' ≡ bytes_at file (p_at n vb) (p_size vb) ++ drop (p_size vb) p
       → za' ≡ bytes_at file (za_at n vb) (za_size vb) ++ drop (za_size vb) za
-      → Reads file (buffers words z p za) (Contents bench n) (buffers words' z' p' za')
+      → Reads file (buffers words z p za) (Ok bench n) (buffers words' z' p' za')
   read_done h words' z' p' za' ew ez ep ea =
       let l = q.holds.lawful.passes in
       let m = length-words_at file 13 n in

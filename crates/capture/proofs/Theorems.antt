@@ -10,7 +10,8 @@ use lib.Dec.{ltb}
 use borrow.Author.Tests.{ltb-true, ltb-false}
 use lib.ListN.{length, take, drop}
 use lib.Seq.{take_at, drop_at}
-use Rattle.isa.specs.Refusals.{missing_in, first_failure}
+use Rattle.std.specs.Prelude.{Err, Ok, Result}
+use Rattle.isa.specs.Refusals.{missing_in, first_failure, number_in, value_in}
 use Rattle.isa.specs.declared.Refusal.{Refusal}
 use Rattle.isa.specs.declared.Refusal.TheVariants.{Room, Version, Format}
 use Rattle.isa.proofs.Refusals.{failure-++}
@@ -23,13 +24,10 @@ use Rattle.machine.specs.Lists.{most_words, list_test}
 use Rattle.machine.specs.Claims.{FirstFive}
 use Rattle.machine.proofs.Numbers.{number_of, Late, given, first_five, later, start_passes}
 use Rattle.capture.specs.Format.{Capture, bytes_of_capture, Legal, Holds, NoCapture}
-use Rattle.capture.specs.Outcomes.{room_test, write_tests, written, filled, over, write_of, room_written, Buffers, Fits, holding, contents_of, OtherVersion, Reads, Refuses, longest, Roomy, written_number, written_length, read_number}
+use Rattle.capture.specs.Outcomes.{room_test, write_tests, written, filled, over, write_of, room_written, Buffers, Fits, holding, contents_of, OtherVersion, Reads, Refuses, longest, Roomy, read_number}
 use Rattle.capture.specs.Outcomes.Reads.{contents, another, malformed, too_long}
 use Rattle.capture.specs.Outcomes.Refuses.{by_version, by_format}
 use Rattle.capture.specs.Claims.{OneCapture, Answers, EveryAnswer, OneOutcome, BenchPasses, Writes, Suffices, WriteThenRead, in_buffers, WrittenAgain, ReadThenWrite}
-use Rattle.capture.specs.declared.Written.TheVariants.{Length}
-use Rattle.capture.specs.declared.Reading.{Reading}
-use Rattle.capture.specs.declared.Reading.TheVariants.{Contents, Refused as NotRead}
 use Rattle.capture.proofs.Captures.{bounds, length_capture, made, one_capture as one}
 use Rattle.capture.proofs.Writing.{write_done, put_over}
 
@@ -44,26 +42,26 @@ not_another : {file : List ℕ} {c : Capture} → Holds file c → OtherVersion 
 unfolding bytes_of_capture
 not_another h o = o.other (ap (λ (l : List ℕ). at l 0) (sym o.is ∙ h.bytes))
 
-module _ {file : List ℕ} {b a : Buffers} {r : Reading} where
+module _ {file : List ℕ} {b a : Buffers} {r : Result Ok Refusal} where
   reads_capture : {c : Capture} → Holds file c → Fits c b → Reads file b r a → (r ≡ contents_of c) × (a ≡ holding c b)
   reads_capture {c} h f (contents d k g e l) = let s : d ≡ c = same_capture k h in (e ∙ ap contents_of s, l ∙ ap (λ (x : Capture). holding x b) s)
   reads_capture h f (another o e l) = absurd (not_another h o)
   reads_capture {c} h f (malformed o n e l) = absurd (n.never c h)
   reads_capture h f (too_long d k g e l) = absurd (g (subst (λ (x : Capture). Fits x b) (same_capture h k) f))
 
-  reads_long : {c : Capture} → Holds file c → (Fits c b → ⊥) → Reads file b r a → (r ≡ NotRead Room) × (a ≡ b)
+  reads_long : {c : Capture} → Holds file c → (Fits c b → ⊥) → Reads file b r a → (r ≡ Err Room) × (a ≡ b)
   reads_long h f (contents d k g e l) = absurd (f (subst (λ (x : Capture). Fits x b) (same_capture k h) g))
   reads_long h f (another o e l) = absurd (not_another h o)
   reads_long {c} h f (malformed o n e l) = absurd (n.never c h)
   reads_long h f (too_long d k g e l) = (e, l)
 
-  reads_another : OtherVersion file → Reads file b r a → (r ≡ NotRead Version) × (a ≡ b)
+  reads_another : OtherVersion file → Reads file b r a → (r ≡ Err Version) × (a ≡ b)
   reads_another o (contents d k g e l) = absurd (not_another k o)
   reads_another o (another p e l) = (e, l)
   reads_another o (malformed p n e l) = absurd (p o)
   reads_another o (too_long d k g e l) = absurd (not_another k o)
 
-  reads_malformed : (OtherVersion file → ⊥) → NoCapture file → Reads file b r a → (r ≡ NotRead Format) × (a ≡ b)
+  reads_malformed : (OtherVersion file → ⊥) → NoCapture file → Reads file b r a → (r ≡ Err Format) × (a ≡ b)
   reads_malformed o n (contents d k g e l) = absurd (n.never d k)
   reads_malformed o n (another p e l) = absurd (o p)
   reads_malformed o n (malformed p m e l) = (e, l)
@@ -115,7 +113,7 @@ every-answer file b after r q =
     untouched (malformed o m e l) n = l
     untouched (too_long c h f e l) n = l
 
-pub answered : {file : List ℕ} {b after : Buffers} {r : Reading} → Reads file b r after
+pub answered : {file : List ℕ} {b after : Buffers} {r : Result Ok Refusal} → Reads file b r after
     → record { reads : Reads file b r after; answers : Answers file b r }
 answered {file} {b} {after} {r} q = record { reads = q; answers = every-answer file b after r q }
 
@@ -129,11 +127,11 @@ module _ (c : Capture) (room : List ℕ) where
   from_six = first_failure (list_test (length c.words) ∷ room_test c (length room) ∷ [])
 
   -- tests 1 to 5, then those
-  write_is : written_number (write_of c (length room)) ≡ given c.bench (length c.z) (length c.p) (length c.za) from_six
+  write_is : number_in (write_of c (length room)) ≡ given c.bench (length c.z) (length c.p) (length c.za) from_six
   unfolding write_of
   write_is = number_of_lem (first_failure (write_tests c (length room))) ∙ ap number_of (failure-++ (bench_tests c.bench (length c.z) (length c.p) (length c.za)) (list_test (length c.words) ∷ room_test c (length room) ∷ []))
     where
-      number_of_lem : (o : Option Refusal) → written_number (written o size) ≡ number_of o
+      number_of_lem : (o : Option Refusal) → number_in (written o size) ≡ number_of o
       number_of_lem none = refl
       number_of_lem (some r) = refl
 
@@ -172,7 +170,7 @@ module _ (c : Capture) (room : List ℕ) where
   is_0 (fits h k) = (λ e. (h, k), λ g. refl)
 
   abbrev Gives : ℕ → Type 0 → Type 0
-  Gives n C = (written_number (write_of c (length room)) ≡ n) ↔ BenchPasses c × C
+  Gives n C = (number_in (write_of c (length room)) ≡ n) ↔ BenchPasses c × C
 
   gives : {n : ℕ} {C : Type 0} → Late n → (number_of from_six ≡ n) ↔ C → Gives n C
   gives {n} {C} l h = subst (λ k. (k ≡ n) ↔ BenchPasses c × C) (sym write_is) (later c.bench (length c.z) (length c.p) (length c.za) from_six l (λ b. h))
@@ -180,21 +178,21 @@ module _ (c : Capture) (room : List ℕ) where
   accepts : Gives 0 ((length c.words ≤ most_words) × (size ≤ length room))
   accepts = gives (λ l. omega arith) (is_0 stops)
 
-  written_whole : BenchPasses c → length c.words ≤ most_words → size ≤ length room → (write_of c (length room) ≡ Length size) × (room_written c room ≡ over (bytes_of_capture c) room)
+  written_whole : BenchPasses c → length c.words ≤ most_words → size ≤ length room → (write_of c (length room) ≡ Ok size) × (room_written c room ≡ over (bytes_of_capture c) room)
   written_whole b w h =
       let p = start_passes c.bench (length c.z) (length c.p) (length c.za) (length c.words) b w in
       let (a, e) = write_done c room size p (length_capture c) h in
       (sym a, sym e ∙ put_over (bytes_of_capture c) room h)
 
-  untouched : (written_number (write_of c (length room)) ≡ 0 → ⊥) → room_written c room ≡ room
+  untouched : (number_in (write_of c (length room)) ≡ 0 → ⊥) → room_written c room ≡ room
   unfolding write_of room_written
   untouched h = go (first_failure (write_tests c (length room))) h
     where
-      go : (o : Option Refusal) → (written_number (written o size) ≡ 0 → ⊥) → filled o (bytes_of_capture c) room ≡ room
+      go : (o : Option Refusal) → (number_in (written o size) ≡ 0 → ⊥) → filled o (bytes_of_capture c) room ≡ room
       go none h = absurd (h refl)
       go (some r) h = refl
 
-  pub every_write : Writes c room (written_number (write_of c (length room)))
+  pub every_write : Writes c room (number_in (write_of c (length room)))
   every_write =
       record {
         first_five =
@@ -221,17 +219,17 @@ suffices c l =
       for_file = omega (arith, length_capture c, l.words_most, s.z_most, s.p_most, s.za_most);
     }
 
-pub written_small : (c : Capture) (room : List ℕ) (n : ℕ) → write_of c (length room) ≡ Length n → n ≤ longest
+pub written_small : (c : Capture) (room : List ℕ) (n : ℕ) → write_of c (length room) ≡ Ok n → n ≤ longest
 written_small c room n e =
-    let (b, (w, f)) = (accepts c room).0 (ap written_number e) in
+    let (b, (w, f)) = (accepts c room).0 (ap number_in e) in
     let s = bounds _ _ _ _ b in
-    let l : n ≡ length (bytes_of_capture c) = ap written_length (sym e ∙ (written_whole c room b w f).0) in
+    let l : n ≡ length (bytes_of_capture c) = ap value_in (sym e ∙ (written_whole c room b w f).0) in
     omega (arith, length_capture c, w, s.z_most, s.p_most, s.za_most)
 
 -- ---- there and back
 pub write_then_read : WriteThenRead
 write_then_read c room n h e =
-    let (b, (w, f)) = (accepts c room).0 (ap written_number e) in
+    let (b, (w, f)) = (accepts c room).0 (ap number_in e) in
     let l : Legal c = record { passes = b; words_most = w; words_fit = h.words_fit; z_fit = h.z_fit; p_fit = h.p_fit; za_fit = h.za_fit } in
     let (a, s) = written_whole c room b w f in
     let m : length (bytes_of_capture c) ≡ n = same (sym a ∙ e) in
@@ -244,7 +242,7 @@ write_then_read c room n h e =
       back = λ b after r q g. reads_capture (record { lawful = l; bytes = file }) g q;
     }
   where
-    same : {m : ℕ} → Length m ≡ Length n → m ≡ n
+    same : {m : ℕ} → Ok m ≡ Ok n → m ≡ n
     same p = cc
 
 written_again : {file : List ℕ} {c : Capture} → Holds file c → WrittenAgain file c
@@ -253,11 +251,11 @@ written_again {file} {c} h =
       holds = h;
       again = λ room g.
           let (x, y) = written_whole c room h.lawful.passes h.lawful.words_most (subst (λ (l : List ℕ). length l ≤ length room) h.bytes g) in
-          (x ∙ ap (λ (l : List ℕ). Length (length l)) (sym h.bytes), y ∙ ap (λ (l : List ℕ). over l room) (sym h.bytes));
+          (x ∙ ap (λ (l : List ℕ). Ok (length l)) (sym h.bytes), y ∙ ap (λ (l : List ℕ). over l room) (sym h.bytes));
     }
 
 -- an answer with contents is of a capture
-contents_of_lem : {file : List ℕ} {before after : Buffers} {b : Bench} {n : ℕ} → Reads file before (Contents b n) after
+contents_of_lem : {file : List ℕ} {before after : Buffers} {b : Bench} {n : ℕ} → Reads file before (Ok b n) after
     → (c : Capture) × Holds file c × (b ≡ c.bench) × (n ≡ length c.words) × (after ≡ holding c before)
 contents_of_lem {b = b} {n = n} (contents c h f e l) = let x : b ≡ c.bench = cc in let y : n ≡ length c.words = cc in (c, h, x, y, l)
 contents_of_lem (another o e l) = let z : ◌≡◌ {A = ℕ} 0 1 = cc in absurd (omega arith)
@@ -265,7 +263,7 @@ contents_of_lem (malformed o m e l) = let z : ◌≡◌ {A = ℕ} 0 1 = cc in ab
 contents_of_lem (too_long c h f e l) = let z : ◌≡◌ {A = ℕ} 0 1 = cc in absurd (omega arith)
 
 -- the capture that stands in the buffers then is that of the file
-in_buffers_lem : {file : List ℕ} {before after : Buffers} {b : Bench} {n : ℕ} → Reads file before (Contents b n) after
+in_buffers_lem : {file : List ℕ} {before after : Buffers} {b : Bench} {n : ℕ} → Reads file before (Ok b n) after
     → Holds file (in_buffers b n after) × (length (take n after.words) ≡ n)
 in_buffers_lem {file} {before} {after} {b} {n} q =
     let (c, h, x, y, l) = contents_of_lem q in
@@ -294,31 +292,31 @@ pub record There (b : Bench) (n : ℕ) (s : Buffers) : Type 0 where
   pub za : length (take (za_size b.vb) s.za) ≡ za_size b.vb
   pub vb_most : b.vb ≤ 256
 
-pub contents_there : {file : List ℕ} {before after : Buffers} {a : Reading} {b : Bench} {n : ℕ} → Reads file before a after → a ≡ Contents b n → There b n after
+pub contents_there : {file : List ℕ} {before after : Buffers} {a : Result Ok Refusal} {b : Bench} {n : ℕ} → Reads file before a after → a ≡ Ok b n → There b n after
 contents_there {file} {before} {after} q e =
-    let (h, w) = in_buffers_lem (subst (λ (r : Reading). Reads file before r after) e q) in
+    let (h, w) = in_buffers_lem (subst (λ (r : Result Ok Refusal). Reads file before r after) e q) in
     let s = h.lawful.passes in
     record { words = w; z = s.z_sized; p = s.p_sized; za = s.za_sized; vb_most = (bounds _ _ _ _ s).vb_most }
 
 -- where there is room for every capture, only 15 and 16 are left
-pub refused_roomy : {file : List ℕ} {before after : Buffers} {a : Reading} {r : Refusal} → Roomy before → Reads file before a after → a ≡ NotRead r → Refuses file r
-refused_roomy {file} {before} {after} {r = r} w q i = go (subst (λ (a : Reading). Reads file before a after) i q)
+pub refused_roomy : {file : List ℕ} {before after : Buffers} {a : Result Ok Refusal} {r : Refusal} → Roomy before → Reads file before a after → a ≡ Err r → Refuses file r
+refused_roomy {file} {before} {after} {r = r} w q i = go (subst (λ (a : Result Ok Refusal). Reads file before a after) i q)
   where
-    go : Reads file before (NotRead r) after → Refuses file r
+    go : Reads file before (Err r) after → Refuses file r
     go (contents c h f e l) = let z : ◌≡◌ {A = ℕ} 0 1 = cc in absurd (omega arith)
     go (another o e l) = let x : Version ≡ r = cc in subst (Refuses file) x (by_version o)
     go (malformed o n e l) = let x : Format ≡ r = cc in subst (Refuses file) x (by_format o n)
     go (too_long c h f e l) = absurd (f ((suffices c h.lawful).for_contents before w))
 
 -- no refusal of a read hands anything back
-pub refused_plain : {file : List ℕ} {before after : Buffers} {r : Refusal} → Reads file before (NotRead r) after → missing_in r ≡ 0
+pub refused_plain : {file : List ℕ} {before after : Buffers} {r : Refusal} → Reads file before (Err r) after → missing_in r ≡ 0
 refused_plain (contents c h f e l) = let z : ◌≡◌ {A = ℕ} 0 1 = cc in absurd (omega arith)
 refused_plain {r = r} (another o e l) = let x : r ≡ Version = cc in rw x
 refused_plain {r = r} (malformed o m e l) = let x : r ≡ Format = cc in rw x
 refused_plain {r = r} (too_long c h f e l) = let x : r ≡ Room = cc in rw x
 
 -- what was read is small
-pub contents_small : {file : List ℕ} {before after : Buffers} {b : Bench} {n : ℕ} → Reads file before (Contents b n) after
+pub contents_small : {file : List ℕ} {before after : Buffers} {b : Bench} {n : ℕ} → Reads file before (Ok b n) after
     → (b.flags ≤ all_flags) × (b.vb ≤ 256) × (n ≤ most_words)
 contents_small q =
     let (c, h, x, y, l) = contents_of_lem q in

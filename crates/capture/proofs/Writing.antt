@@ -10,16 +10,15 @@ use lib.Dec.{ltb}
 use lib.ListN.{length}
 use lib.Seq.{sets, sets-eq}
 use borrow.Author.Tests.{lt-ltb, le-ltb}
-use Rattle.isa.specs.Refusals.{first_failure}
+use Rattle.std.specs.Prelude.{Err, Ok, Result}
+use Rattle.isa.specs.Refusals.{first_failure, number_in, value_in}
 use Rattle.isa.specs.declared.Refusal.{Refusal}
 use Rattle.isa.specs.declared.Refusal.TheVariants.{Room}
 use Rattle.isa.proofs.Refusals.{failed_before, passed_before}
 use Rattle.storage.proofs.Bytes.{sets_append}
 use Rattle.machine.specs.declared.Bench.{Bench}
 use Rattle.capture.specs.Format.{version, Capture, big4, modes, head_of, word_bytes, part, joined, bytes_of_capture}
-use Rattle.capture.specs.Outcomes.{capture_tests, room_test, write_tests, over, write_of, room_written, written_number, written_length}
-use Rattle.capture.specs.declared.Written.{Written}
-use Rattle.capture.specs.declared.Written.TheVariants.{Length, Refused as NotWritten}
+use Rattle.capture.specs.Outcomes.{capture_tests, room_test, write_tests, over, write_of, room_written}
 use Rattle.capture.proofs.Numbers.{length_word_bytes}
 use Rattle.capture.proofs.Partition.{length_part}
 use Rattle.capture.proofs.Captures.{length_capture}
@@ -87,13 +86,13 @@ pub put_over : (t room : List ℕ) → length t ≤ length room → sets room 0 
 put_over t room h = sets-eq t room 0 (omega arith) ∙ rw (zero-add (length t))
 
 -- ---- an answer and its numbers
-pub numbered : {a w : Written} {A : Type 0} → (a ≡ w) × A
-    → record { answer : a ≡ w; room_after : A; number : written_number a ≡ written_number w; len : written_length a ≡ written_length w }
-numbered h = record { answer = h.0; room_after = h.1; number = ap written_number h.0; len = ap written_length h.0 }
+pub numbered : {a w : Result ℕ Refusal} {A : Type 0} → (a ≡ w) × A
+    → record { answer : a ≡ w; room_after : A; number : number_in a ≡ number_in w; len : value_in a ≡ value_in w }
+numbered h = record { answer = h.0; room_after = h.1; number = ap number_in h.0; len = ap value_in h.0 }
 
 -- ---- the tests decide
 module _ (c : Capture) (room : List ℕ) where
-  pub write_refused : (r : Refusal) → first_failure (capture_tests c) ≡ some r → (NotWritten r ≡ write_of c (length room)) × (room ≡ room_written c room)
+  pub write_refused : (r : Refusal) → first_failure (capture_tests c) ≡ some r → (Err r ≡ write_of c (length room)) × (room ≡ room_written c room)
   unfolding write_of room_written
   write_refused r h =
       let e : first_failure (write_tests c (length room)) ≡ some r = failed_before (capture_tests c) (room_test c (length room) ∷ []) r h in
@@ -103,14 +102,14 @@ module _ (c : Capture) (room : List ℕ) where
   tested b h e = passed_before (capture_tests c) (room_test c (length room) ∷ []) h ∙ rw e
 
   pub write_short : first_failure (capture_tests c) ≡ none → length room < 25 + 4 * length c.words + length c.z + length c.p + length c.za
-      → (NotWritten Room ≡ write_of c (length room)) × (room ≡ room_written c room)
+      → (Err Room ≡ write_of c (length room)) × (room ≡ room_written c room)
   unfolding write_of room_written
   write_short h s =
       let e = tested true h (lt-ltb (length room) (length (bytes_of_capture c)) (rw (length_capture c) s)) in
       (rw e, rw e)
 
   pub write_done : (n : ℕ) → first_failure (capture_tests c) ≡ none → n ≡ 25 + 4 * length c.words + length c.z + length c.p + length c.za → n ≤ length room
-      → (Length n ≡ write_of c (length room)) × (sets room 0 (bytes_of_capture c) ≡ room_written c room)
+      → (Ok n ≡ write_of c (length room)) × (sets room 0 (bytes_of_capture c) ≡ room_written c room)
   unfolding write_of room_written
   write_done n h m s =
       let l : length (bytes_of_capture c) ≡ n = length_capture c ∙ sym m in

@@ -1,5 +1,5 @@
 -- What write and read answer, and what they leave in the buffers lent to them (document 02, C-20).
-use Rattle.std.specs.Prelude.{◌≡◌, List, [], ◌∷◌, ◌++◌, ℕ, ◌≤◌, ltb, length, drop}
+use Rattle.std.specs.Prelude.{◌≡◌, List, [], ◌∷◌, ◌++◌, ℕ, ◌≤◌, ltb, length, drop, Err, Ok, Result}
 use Rattle.std.proofs.Math.Option.{Option, none, some}
 use Rattle.isa.specs.Refusals.{Test, first_failure, refusal_number}
 use Rattle.isa.specs.declared.Refusal.{Refusal}
@@ -7,10 +7,6 @@ use Rattle.isa.specs.declared.Refusal.TheVariants.{Room, Version, Format}
 use Rattle.storage.specs.Sizes.{z_size, p_size, za_size}
 use Rattle.machine.specs.Lists.{most_words, start_tests}
 use Rattle.capture.specs.Format.{version, Capture, bytes_of_capture, Holds, NoCapture}
-use Rattle.capture.specs.declared.Written.{Written}
-use Rattle.capture.specs.declared.Written.TheVariants.{Length, Refused as NotWritten}
-use Rattle.capture.specs.declared.Reading.{Reading}
-use Rattle.capture.specs.declared.Reading.TheVariants.{Contents, Refused as NotRead}
 
 -- ---- writing
 
@@ -29,11 +25,11 @@ write_tests c room = capture_tests c ++ (room_test c room ∷ [])
 abbrev pub over : List ℕ → List ℕ → List ℕ
 over t room = t ++ drop (length t) room
 
-abbrev pub written : Option Refusal → ℕ → Written
-written none n = Length n
-written (some r) n = NotWritten r
+abbrev pub written : Option Refusal → ℕ → Result ℕ Refusal
+written none n = Ok n
+written (some r) n = Err r
 
-unfoldable pub write_of : Capture → ℕ → Written
+unfoldable pub write_of : Capture → ℕ → Result ℕ Refusal
 write_of c room = written (first_failure (write_tests c room)) (length (bytes_of_capture c))
 
 abbrev pub filled : Option Refusal → List ℕ → List ℕ → List ℕ
@@ -65,8 +61,8 @@ pub record Fits (c : Capture) (b : Buffers) : Type 0 where
 abbrev pub holding : Capture → Buffers → Buffers
 holding c b = buffers (over c.words b.words) (over c.z b.z) (over c.p b.p) (over c.za b.za)
 
-abbrev pub contents_of : Capture → Reading
-contents_of c = Contents c.bench (length c.words)
+abbrev pub contents_of : Capture → Result Ok Refusal
+contents_of c = Ok c.bench (length c.words)
 
 -- a file of another version: some first byte, and not 1
 pub record OtherVersion (file : List ℕ) : Type 0 where
@@ -76,11 +72,11 @@ pub record OtherVersion (file : List ℕ) : Type 0 where
   pub other : first ≡ version → ⊥
 
 -- what read answers and leaves: the contents of the capture that the file is; or 15, 16, 12, and every buffer as it was
-pub data Reads (file : List ℕ) (before : Buffers) (r : Reading) (after : Buffers) : Type 0 where
+pub data Reads (file : List ℕ) (before : Buffers) (r : Result Ok Refusal) (after : Buffers) : Type 0 where
   contents : (c : Capture) → Holds file c → Fits c before → r ≡ contents_of c → after ≡ holding c before → Reads file before r after
-  another : OtherVersion file → r ≡ NotRead Version → after ≡ before → Reads file before r after
-  malformed : (OtherVersion file → ⊥) → NoCapture file → r ≡ NotRead Format → after ≡ before → Reads file before r after
-  too_long : (c : Capture) → Holds file c → (Fits c before → ⊥) → r ≡ NotRead Room → after ≡ before → Reads file before r after
+  another : OtherVersion file → r ≡ Err Version → after ≡ before → Reads file before r after
+  malformed : (OtherVersion file → ⊥) → NoCapture file → r ≡ Err Format → after ≡ before → Reads file before r after
+  too_long : (c : Capture) → Holds file c → (Fits c before → ⊥) → r ≡ Err Room → after ≡ before → Reads file before r after
 
 -- why a file is none, where there is room enough: 15 or 16
 pub data Refuses (file : List ℕ) : Refusal → Type 0 where
@@ -95,16 +91,16 @@ abbrev pub Roomy : Buffers → Type 0
 Roomy b = (most_words ≤ length b.words) × (z_size 256 ≤ length b.z) × (p_size 256 ≤ length b.p) × (za_size 256 ≤ length b.za)
 
 -- ---- the papers' numbers
-abbrev pub written_refusal : Written → Option Refusal
-written_refusal (Length n) = none
-written_refusal (NotWritten r) = some r
+abbrev pub written_refusal : Result ℕ Refusal → Option Refusal
+written_refusal (Ok n) = none
+written_refusal (Err r) = some r
 
-abbrev pub written_number : Written → ℕ
+abbrev pub written_number : Result ℕ Refusal → ℕ
 written_number a = refusal_number (written_refusal a)
 
-abbrev pub written_length : Written → ℕ
-written_length (Length n) = n
-written_length (NotWritten r) = 0
+abbrev pub written_length : Result ℕ Refusal → ℕ
+written_length (Ok n) = n
+written_length (Err r) = 0
 
 abbrev pub write_number : Capture → ℕ → ℕ
 write_number c room = written_number (write_of c room)
@@ -112,9 +108,9 @@ write_number c room = written_number (write_of c room)
 abbrev pub write_length : Capture → ℕ → ℕ
 write_length c room = written_length (write_of c room)
 
-abbrev pub read_refusal : Reading → Option Refusal
-read_refusal (Contents b words) = none
-read_refusal (NotRead r) = some r
+abbrev pub read_refusal : Result Ok Refusal → Option Refusal
+read_refusal (Ok b words) = none
+read_refusal (Err r) = some r
 
-abbrev pub read_number : Reading → ℕ
+abbrev pub read_number : Result Ok Refusal → ℕ
 read_number a = refusal_number (read_refusal a)

@@ -2,20 +2,18 @@
 use Rattle.std.proofs.Common.{◌≡◌, ℕ, ◌+◌, ◌%◌, ◌^◌, ◌≤◌, Bool, true, false, cond, List, ◌++◌, length, drop, sym, refl, ◌∙◌, arith, length-append, le-ltb}
 use mathlib.Core.Option.{none, some}
 use native.Mathlib.Nat.{mod-mod}
+use Rattle.std.specs.Prelude.{Err, Ok, Result}
 use Rattle.isa.specs.Table.{Feature, SME, I16I64, MOP4, SME2, all_flags, on}
 use Rattle.isa.specs.Answers.{describe, absent, decode_of, decode_number}
 use Rattle.isa.specs.Claims.{FeaturesOn}
 use Rattle.isa.specs.declared.Instruction.{Instruction}
 use Rattle.isa.specs.declared.Refusal.{Refusal}
 use Rattle.isa.specs.declared.Refusal.TheVariants.{Unlisted}
-use Rattle.isa.specs.declared.Decoded.{Decoded}
-use Rattle.isa.specs.declared.Decoded.TheVariants.{Accepted, Refused as NotDecoded}
 use Rattle.isa.proofs.Answers.{decode_refused}
 use Rattle.isa.proofs.Theorems.{decodes, accepted_in_range}
 use Rattle.text.specs.Ascii.{ascii}
 use Rattle.text.specs.Spelling.{spelling}
 use Rattle.text.specs.Printing.{text_of, print_of, room_after}
-use Rattle.text.specs.declared.Printed.TheVariants.{Length, Refused as NotPrinted}
 use Rattle.text.proofs.Rooms.{accepted_text, print_accepted, room-accepted, print_refused, unfilled}
 use Rattle.text.proofs.Lengths.{line-between}
 use Rattle.disassembly.specs.Listing.{hexadecimal, field, said, line_feed, line}
@@ -32,7 +30,7 @@ pub features_on : (w : ℕ) → FeaturesOn all_flags w
 features_on w e m q f n = every_feature f
 
 -- with every feature on, a word that is refused is not listed
-refused_unlisted : (w : ℕ) (r : Refusal) → decode_of all_flags w ≡ NotDecoded r → r ≡ Unlisted
+refused_unlisted : (w : ℕ) (r : Refusal) → decode_of all_flags w ≡ Err r → r ≡ Unlisted
 refused_unlisted w r p = go (absent (describe w)) (rw ((decodes all_flags w).missing_none.1 (features_on w)) at (decode_refused all_flags w r p))
   where
     go : (b : Bool) → cond b (some Unlisted) none ≡ some r → r ≡ Unlisted
@@ -49,38 +47,38 @@ unfolding said
 said_unlisted w p = rw p
 
 -- and by its answer
-said-accepted : (w : ℕ) (i : Instruction) → decode_of all_flags w ≡ Accepted i → said w ≡ spelling i
+said-accepted : (w : ℕ) (i : Instruction) → decode_of all_flags w ≡ Ok i → said w ≡ spelling i
 unfolding said
 said-accepted w i p = rw p (accepted_text all_flags w i p)
 
-said_refused : (w : ℕ) (r : Refusal) → decode_of all_flags w ≡ NotDecoded r → said w ≡ ascii "-7"
+said_refused : (w : ℕ) (r : Refusal) → decode_of all_flags w ≡ Err r → said w ≡ ascii "-7"
 unfolding said
 said_refused w r p = rw (p, refused_unlisted w r p)
 
 -- ---- what print does with a room that holds every text
 module _ (w : ℕ) (room : List ℕ) (large : 47 ≤ length room) where
-  pub printed-said : (n : ℕ) → print_of all_flags w (length room) ≡ Length n
+  pub printed-said : (n : ℕ) → print_of all_flags w (length room) ≡ Ok n
       → (n ≡ length (said w)) × (room_after all_flags w room ≡ said w ++ drop (length (said w)) room)
   printed-said n p = go (decode_of all_flags w) refl
     where
-      go : (a : Decoded) → decode_of all_flags w ≡ a → (n ≡ length (said w)) × (room_after all_flags w room ≡ said w ++ drop (length (said w)) room)
-      go (Accepted i) e =
+      go : (a : Result Instruction Refusal) → decode_of all_flags w ≡ a → (n ≡ length (said w)) × (room_after all_flags w room ≡ said w ++ drop (length (said w)) room)
+      go (Ok i) e =
           let l = le-ltb (length room) (length (spelling i)) (omega (arith, line-between i (accepted_in_range all_flags w i e))) in
-          let q : Length (length (spelling i)) ≡ Length n = rw l at (sym (print_accepted all_flags w (length room) i e) ∙ p) in
+          let q : Ok (length (spelling i)) ≡ Ok n = rw l at (sym (print_accepted all_flags w (length room) i e) ∙ p) in
           rw (said-accepted w i e) (cc, rw l at (room-accepted all_flags w room i e))
-      go (NotDecoded r) e = let q = sym (print_refused all_flags w (length room) r e) ∙ p in let z : ◌≡◌ {A = ℕ} 0 1 = cc in absurd (omega arith)
+      go (Err r) e = let q = sym (print_refused all_flags w (length room) r e) ∙ p in let z : ◌≡◌ {A = ℕ} 0 1 = cc in absurd (omega arith)
 
-  pub not-printed : (r : Refusal) → print_of all_flags w (length room) ≡ NotPrinted r
+  pub not-printed : (r : Refusal) → print_of all_flags w (length room) ≡ Err r
       → (r ≡ Unlisted) × (room_after all_flags w room ≡ room) × (said w ≡ ascii "-7")
   not-printed r p = go (decode_of all_flags w) refl
     where
-      go : (a : Decoded) → decode_of all_flags w ≡ a → (r ≡ Unlisted) × (room_after all_flags w room ≡ room) × (said w ≡ ascii "-7")
-      go (Accepted i) e =
+      go : (a : Result Instruction Refusal) → decode_of all_flags w ≡ a → (r ≡ Unlisted) × (room_after all_flags w room ≡ room) × (said w ≡ ascii "-7")
+      go (Ok i) e =
           let l = le-ltb (length room) (length (spelling i)) (omega (arith, line-between i (accepted_in_range all_flags w i e))) in
-          let q : Length (length (spelling i)) ≡ NotPrinted r = rw l at (sym (print_accepted all_flags w (length room) i e) ∙ p) in
+          let q : Ok (length (spelling i)) ≡ Err r = rw l at (sym (print_accepted all_flags w (length room) i e) ∙ p) in
           let z : ◌≡◌ {A = ℕ} 0 1 = cc in
           absurd (omega arith)
-      go (NotDecoded s) e =
+      go (Err s) e =
           let q = sym (print_refused all_flags w (length room) s e) ∙ p in
           let same : r ≡ s = cc in
           (same ∙ refused_unlisted w s e, unfilled all_flags w room s e, said_refused w s e)
@@ -88,9 +86,9 @@ module _ (w : ℕ) (room : List ℕ) (large : 47 ≤ length room) where
 pub said_short : (w : ℕ) → length (said w) ≤ 47
 said_short w = go (decode_of all_flags w) refl
   where
-    go : (a : Decoded) → decode_of all_flags w ≡ a → length (said w) ≤ 47
-    go (Accepted i) p = rw (said-accepted w i p) (line-between i (accepted_in_range all_flags w i p)).high
-    go (NotDecoded r) p = rw (said_refused w r p) (omega arith)
+    go : (a : Result Instruction Refusal) → decode_of all_flags w ≡ a → length (said w) ≤ 47
+    go (Ok i) p = rw (said-accepted w i p) (line-between i (accepted_in_range all_flags w i p)).high
+    go (Err r) p = rw (said_refused w r p) (omega arith)
 
 -- ---- lengths
 pub field-length : (v : ℕ) → length (field v) ≡ 9

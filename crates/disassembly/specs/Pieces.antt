@@ -1,11 +1,10 @@
 -- Where a listing stands between two pieces of its input, what is written for a piece and at the end, and how much of a piece a
 -- room takes.
-use Rattle.std.specs.Prelude.{ℕ, ◌+◌, ◌-◌, ◌*◌, ◌/◌, ◌%◌, ◌^◌, min, List, [], ◌∷◌, ◌++◌, length, take, drop, nat_lt, slice_index}
-use Rattle.isa.specs.Refusals.{Test, first_failure}
+use Rattle.std.specs.Prelude.{ℕ, ◌+◌, ◌-◌, ◌*◌, ◌/◌, ◌%◌, ◌^◌, min, List, [], ◌∷◌, ◌++◌, length, take, drop, nat_lt, slice_index, Result}
+use Rattle.isa.specs.Refusals.{Test, first_failure, missing_beside, number_in, value_in}
 use Rattle.isa.specs.declared.Refusal.TheVariants.{Room}
 use Rattle.text.specs.Spelling.{Text}
-use Rattle.text.specs.Printing.{printed, filled, printed_number, printed_missing, printed_length}
-use Rattle.text.specs.declared.Printed.{Printed}
+use Rattle.text.specs.Printing.{printed, filled}
 use Rattle.disassembly.specs.Listing.{word_of, word_lines, end_line}
 use Rattle.disassembly.specs.declared.Begun.{Begun}
 use Rattle.disassembly.specs.declared.Begun.TheVariants.{Nothing, One, Two, Three}
@@ -79,7 +78,7 @@ room_listed p piece room = let t = lines_for p (taken_part p piece (length room)
 abbrev pub end_tests : Place → ℕ → List Test
 end_tests p room = record { fails = nat_lt room (length (end_for p)); gives = Room } ∷ []
 
-unfoldable pub finish_of : Place → ℕ → Printed
+unfoldable pub finish_of : Place → ℕ → Result ℕ Refusal
 finish_of p room = printed (first_failure (end_tests p room)) (end_for p)
 
 unfoldable pub room_finished : Place → List ℕ → List ℕ
@@ -87,10 +86,10 @@ room_finished p room = filled (first_failure (end_tests p (length room))) (end_f
 
 -- the paper's number, sum and value of finish's answer
 abbrev pub finish_number : Place → ℕ → ℕ
-finish_number p room = printed_number (finish_of p room)
+finish_number p room = number_in (finish_of p room)
 
 abbrev pub finish_missing : Place → ℕ → ℕ
-finish_missing p room = printed_missing (finish_of p room)
+finish_missing p room = missing_beside (finish_of p room)
 
 abbrev pub finish_length : Place → ℕ → ℕ
-finish_length p room = printed_length (finish_of p room)
+finish_length p room = value_in (finish_of p room)

@@ -7,6 +7,7 @@ use Prim.Native.Nat.{ℕ, ◌+◌, ◌≤◌, ◌<◌}
 use native.Mathlib.Omega.{arith}
 use lib.Dec.{eqb, ltb}
 use borrow.Author.Tests.{lt-ltb, le-ltb, ltb-true, ltb-false, not-true, not-false, eq-eqb, ne_eqb}
+use Rattle.std.specs.Prelude.{Err, Ok, Result}
 use Rattle.isa.specs.Row.{matches}
 use Rattle.isa.specs.Refusals.{first_failure}
 use Rattle.isa.specs.Table.{Feature, flag, SME, I16I64, MOP4, SME2, on, lacking, all_flags, Entry, table, described, in_range, word_for}
@@ -15,9 +16,6 @@ use Rattle.isa.specs.Claims.{AllOn}
 use Rattle.isa.specs.declared.Instruction.{Instruction}
 use Rattle.isa.specs.declared.Refusal.{Refusal}
 use Rattle.isa.specs.declared.Refusal.TheVariants.{Flags, Unlisted, FeatureOff, OutOfRange, Room}
-use Rattle.isa.specs.declared.Decoded.{Decoded}
-use Rattle.isa.specs.declared.Decoded.TheVariants.{Accepted, Refused as NotDecoded}
-use Rattle.isa.specs.declared.Encoded.TheVariants.{Word, Refused as NotEncoded}
 use Rattle.isa.proofs.Refusals.{failed_before, passed_before}
 use Rattle.isa.proofs.Lookup.{lookup_found}
 
@@ -51,51 +49,43 @@ pub flags_exceed : {flags : ℕ} {b : Bool} → b ≡ not (ltb all_flags flags) 
 flags_exceed p q = ltb-true _ _ (not-false _ (sym p ∙ q))
 
 -- ---- decode
-pub decode_flags : (flags w : ℕ) → all_flags < flags → decode_of flags w ≡ NotDecoded Flags
+pub decode_flags : (flags w : ℕ) → all_flags < flags → decode_of flags w ≡ Err Flags
 unfolding decode_of
 decode_flags flags w h = rw (lt-ltb all_flags flags h)
 
-pub decode_unlisted : (flags w : ℕ) → flags ≤ all_flags → lookup table w ≡ none → decode_of flags w ≡ NotDecoded Unlisted
+pub decode_unlisted : (flags w : ℕ) → flags ≤ all_flags → lookup table w ≡ none → decode_of flags w ≡ Err Unlisted
 unfolding decode_of describe
 decode_unlisted flags w h p = rw (le-ltb all_flags flags h, p)
 
 -- what test 8 leaves of a word that passed 1 and 7
-abbrev pub allowed : ℕ → Instruction → Decoded
-allowed lacks i = cond (eqb lacks 0) (Accepted i) (NotDecoded (FeatureOff lacks))
+abbrev pub allowed : ℕ → Instruction → Result Instruction Refusal
+allowed lacks i = cond (eqb lacks 0) (Ok i) (Err (FeatureOff lacks))
 
 pub decode_listed : (flags w : ℕ) (e : Entry) → flags ≤ all_flags → lookup table w ≡ some e
     → decode_of flags w ≡ allowed (lacking flags e.needs) (described e w)
 unfolding decode_of describe missing
 decode_listed flags w e h p = rw (le-ltb all_flags flags h, p) (go (eqb (lacking flags e.needs) 0) (FeatureOff (lacking flags e.needs)))
   where
-    go : (b : Bool) (r : Refusal) → decided (cond (not b) (some r) none) (some (described e w)) ≡ cond b (Accepted (described e w)) (NotDecoded r)
+    go : (b : Bool) (r : Refusal) → decided (cond (not b) (some r) none) (some (described e w)) ≡ cond b (Ok (described e w)) (Err r)
     go true r = refl
     go false r = refl
 
--- the same for a line that was found and what it lacks, nothing where there is none
-module _ (flags w : ℕ) {o : Option Entry} {k : ℕ} (h : flags ≤ all_flags) (p : o ≡ lookup table w) (q : k ≡ lacking flags (needed_by o)) where
-  pub decode_lacking : (k ≡ 0 → ⊥) → decode_of flags w ≡ NotDecoded (FeatureOff (lacking flags (needed_by o)))
-  decode_lacking d = go o (sym p) (λ e. d (q ∙ e))
-    where
-      go : (o : Option Entry) → lookup table w ≡ o → (lacking flags (needed_by o) ≡ 0 → ⊥) → decode_of flags w ≡ NotDecoded (FeatureOff (lacking flags (needed_by o)))
-      go none p d = absurd (d refl)
-      go (some e) p d = decode_listed flags w e h p ∙ rw (ne_eqb _ 0 d)
+-- the same by the sum that the line lacks
+module _ (flags w : ℕ) {e : Entry} {k : ℕ} (h : flags ≤ all_flags) (p : some e ≡ lookup table w) (q : k ≡ lacking flags e.needs) where
+  pub decode_lacking : (k ≡ 0 → ⊥) → decode_of flags w ≡ Err (FeatureOff k)
+  decode_lacking d = decode_listed flags w e h (sym p) ∙ rw (sym q, ne_eqb k 0 d)
 
-  pub decode_open : k ≡ 0 → decode_of flags w ≡ decided none (described_by o w)
-  decode_open e = go o (sym p) (sym q ∙ e)
-    where
-      go : (o : Option Entry) → lookup table w ≡ o → lacking flags (needed_by o) ≡ 0 → decode_of flags w ≡ decided none (described_by o w)
-      go none p z = decode_unlisted flags w h p
-      go (some e) p z = decode_listed flags w e h p ∙ rw (eq-eqb _ 0 z)
+  pub decode_open : k ≡ 0 → decode_of flags w ≡ Ok (described e w)
+  decode_open z = decode_listed flags w e h (sym p) ∙ rw (sym q, eq-eqb k 0 z)
 
 -- ---- an answer that was decided by tests and a description
-pub decided-accepted : (o : Option Refusal) (d : Option Instruction) (i : Instruction) → decided o d ≡ Accepted i → (o ≡ none) × (d ≡ some i)
+pub decided-accepted : (o : Option Refusal) (d : Option Instruction) (i : Instruction) → decided o d ≡ Ok i → (o ≡ none) × (d ≡ some i)
 decided-accepted (some r) d i p = let z : ◌≡◌ {A = ℕ} 0 1 = cc in absurd (omega arith)
 decided-accepted none none i p = let z : ◌≡◌ {A = ℕ} 0 1 = cc in absurd (omega arith)
 decided-accepted none (some j) i p = let z : j ≡ i = cc in (refl, ap {B = Option Instruction} some z)
 
 -- where a word without a description fails a test
-pub decided_refused : (o : Option Refusal) (d : Option Instruction) (r : Refusal) → (d ≡ none → o ≡ none → ⊥) → decided o d ≡ NotDecoded r → o ≡ some r
+pub decided_refused : (o : Option Refusal) (d : Option Instruction) (r : Refusal) → (d ≡ none → o ≡ none → ⊥) → decided o d ≡ Err r → o ≡ some r
 decided_refused (some s) d r u p = let z : s ≡ r = cc in ap {B = Option Refusal} some z
 decided_refused none none r u p = absurd (u refl refl)
 decided_refused none (some j) r u p = let z : ◌≡◌ {A = ℕ} 0 1 = cc in absurd (omega arith)
@@ -109,11 +99,11 @@ unlisted_fails flags w d p = go (ltb all_flags flags) (rw d at p)
     go false q = let z : ◌≡◌ {A = ℕ} 0 1 = cc in omega arith
 
 -- decode's answer by its tests, for those who make further tests
-pub decode_refused : (flags w : ℕ) (r : Refusal) → decode_of flags w ≡ NotDecoded r → first_failure (decode_tests flags w) ≡ some r
+pub decode_refused : (flags w : ℕ) (r : Refusal) → decode_of flags w ≡ Err r → first_failure (decode_tests flags w) ≡ some r
 unfolding decode_of
 decode_refused flags w r = decided_refused (first_failure (decode_tests flags w)) (describe w) r (unlisted_fails flags w)
 
-pub decode_passed : (flags w : ℕ) (i : Instruction) → decode_of flags w ≡ Accepted i
+pub decode_passed : (flags w : ℕ) (i : Instruction) → decode_of flags w ≡ Ok i
     → (first_failure (decode_tests flags w) ≡ none) × (describe w ≡ some i)
 unfolding decode_of
 decode_passed flags w i = decided-accepted (first_failure (decode_tests flags w)) (describe w) i
@@ -121,15 +111,15 @@ decode_passed flags w i = decided-accepted (first_failure (decode_tests flags w)
 pub decode_refusal_lem : (flags w : ℕ) → decode_refusal flags w ≡ first_failure (decode_tests flags w)
 decode_refusal_lem flags w = go (decode_of flags w) refl
   where
-    go : (a : Decoded) → decode_of flags w ≡ a → decode_refusal flags w ≡ first_failure (decode_tests flags w)
-    go (Accepted i) p = rw p (sym (decode_passed flags w i p).0)
-    go (NotDecoded r) p = rw p (sym (decode_refused flags w r p))
+    go : (a : Result Instruction Refusal) → decode_of flags w ≡ a → decode_refusal flags w ≡ first_failure (decode_tests flags w)
+    go (Ok i) p = rw p (sym (decode_passed flags w i p).0)
+    go (Err r) p = rw p (sym (decode_refused flags w r p))
 
 -- and with a room for k of its bytes or numbers
-pub room_refused : (flags w n k : ℕ) (r : Refusal) → decode_of flags w ≡ NotDecoded r → first_failure (room_tests flags w n k) ≡ some r
+pub room_refused : (flags w n k : ℕ) (r : Refusal) → decode_of flags w ≡ Err r → first_failure (room_tests flags w n k) ≡ some r
 room_refused flags w n k r p = failed_before (decode_tests flags w) (record { fails = ltb n k; gives = Room } ∷ []) r (decode_refused flags w r p)
 
-pub room_passed : (flags w n k : ℕ) (i : Instruction) → decode_of flags w ≡ Accepted i → first_failure (room_tests flags w n k) ≡ cond (ltb n k) (some Room) none
+pub room_passed : (flags w n k : ℕ) (i : Instruction) → decode_of flags w ≡ Ok i → first_failure (room_tests flags w n k) ≡ cond (ltb n k) (some Room) none
 room_passed flags w n k i p = passed_before (decode_tests flags w) (record { fails = ltb n k; gives = Room } ∷ []) (decode_passed flags w i p).0
 
 -- ---- the description of a word
@@ -138,16 +128,16 @@ unfolding describe
 describe_found w m h = rw (lookup_found w m h)
 
 -- ---- encode
-pub encode_in_range : (i : Instruction) → in_range i ≡ true → encode_of i ≡ Word (word_for i)
+pub encode_in_range : (i : Instruction) → in_range i ≡ true → encode_of i ≡ Ok (word_for i)
 unfolding encode_of
 encode_in_range i h = rw h
 
-pub encode_out_of_range : (i : Instruction) → in_range i ≡ false → encode_of i ≡ NotEncoded OutOfRange
+pub encode_out_of_range : (i : Instruction) → in_range i ≡ false → encode_of i ≡ Err OutOfRange
 unfolding encode_of
 encode_out_of_range i h = rw h
 
 -- what encode gives a word for is in range, and the word is its word
-pub encoded : (i : Instruction) (w : ℕ) → encode_of i ≡ Word w → (in_range i ≡ true) × (w ≡ word_for i)
+pub encoded : (i : Instruction) (w : ℕ) → encode_of i ≡ Ok w → (in_range i ≡ true) × (w ≡ word_for i)
 encoded i w p = go (in_range i) refl
   where
     go : (b : Bool) → in_range i ≡ b → (in_range i ≡ true) × (w ≡ word_for i)

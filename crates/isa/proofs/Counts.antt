@@ -11,13 +11,13 @@ use native.Mathlib.Omega.{arith}
 use lib.Dec.{eqb, lit≤}
 use lib.Pow.{pow-add}
 use borrow.Author.Tests.{eq-eqb, ne_eqb, eqb-true, ltb-true}
+use Rattle.std.specs.Prelude.{Err, Ok}
+use Rattle.isa.specs.Refusals.{number_in}
 use Rattle.isa.specs.Row.{fixed, field, Row, size, matches}
 use Rattle.isa.specs.Table.{bit, Entry, all_flags, lacking, base_table, table}
-use Rattle.isa.specs.Answers.{decoded_number}
 use Rattle.isa.specs.Counts.{count_below, is_accepted, is_of, is_accepted_of, Counted, free_bits, words_of}
 use Rattle.isa.specs.declared.Instruction.{Instruction}
 use Rattle.isa.specs.declared.Refusal.TheVariants.{FeatureOff}
-use Rattle.isa.specs.declared.Decoded.TheVariants.{Accepted, Refused as NotDecoded}
 use Rattle.isa.proofs.Tests.{every_all}
 use Rattle.isa.proofs.Rows.{Sound, top, matches_below, both}
 use Rattle.isa.proofs.Lines.{line_sound}
@@ -143,9 +143,9 @@ module _ (flags : ℕ) where
   module _ (legal : flags ≤ all_flags) where
     accepted-line : (e : Entry) (w : ℕ) → Memᴰ e table → matches e.row w ≡ true → is_accepted flags w ≡ open? e
     accepted-line e w m h =
-        ap (λ d. eqb (decoded_number d) 0) (decode_listed flags w e legal (lookup_found w m h)) ∙ go (open? e) _ _
+        ap (λ d. eqb (number_in d) 0) (decode_listed flags w e legal (lookup_found w m h)) ∙ go (open? e) _ _
       where
-        go : (b : Bool) (i : Instruction) (sum : ℕ) → eqb (decoded_number (cond b (Accepted i) (NotDecoded (FeatureOff sum)))) 0 ≡ b
+        go : (b : Bool) (i : Instruction) (sum : ℕ) → eqb (number_in (cond b (Ok i) (Err (FeatureOff sum)))) 0 ≡ b
         go true i sum = refl
         go false i sum = refl
 

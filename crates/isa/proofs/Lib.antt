@@ -1,6 +1,7 @@
 pub mod Tests
 pub mod Refusals
 pub mod Rows
+pub mod Masks
 pub mod Lines
 pub mod Lookup
 pub mod Answers

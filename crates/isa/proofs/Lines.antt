@@ -19,6 +19,8 @@ use Rattle.isa.specs.declared.Shape.TheVariants.{Bytes32, Halves64, Halves32}
 use Rattle.isa.specs.declared.Operation.{Operation}
 use Rattle.isa.specs.declared.Source.{Source}
 use Rattle.isa.specs.declared.Source.TheVariants.{One, Pair}
+use Rattle.isa.specs.declared.PredicatedProduct.{PredicatedProduct}
+use Rattle.isa.specs.declared.QuarterProduct.{QuarterProduct}
 use Rattle.isa.specs.declared.Instruction.{Instruction}
 use Rattle.isa.specs.declared.Instruction.TheVariants.{Predicated, Quarter, Zero}
 use Rattle.isa.proofs.Tests.{All, every_all, all_every}
@@ -88,11 +90,6 @@ products_some op = go op.two_way
     go : (two : Bool) → 0 < cond two 2 4
     go true = omega arith
     go false = omega arith
-
--- the tile that the lowest bits number, as many as an operation's elements need
-pub tile_read : (w : ℕ) {op q : Operation} {tile : Tile} → op ≡ q → tile ≡ record { 0 = w % tiles_of (element_bytes op) }
-    → tile ≡ record { 0 = w / 1 % tiles_of (element_bytes q) }
-tile_read w p t = t ∙ rw (p, div-one w)
 
 -- ---- the two families of outer products, each a line for each shape
 pub data Family : Type 0 where
@@ -270,8 +267,8 @@ line_kept =
 
 -- ---- a description in range
 pub in_table : (i : Instruction) → Memᴰ (entry_of i) table
-in_table (Predicated op tile pn pm zn zm) = line_in predicates (shape_of op)
-in_table (Quarter op tile first second) = line_in quarters (shape_of op)
+in_table (Predicated p) = line_in predicates (shape_of p.op)
+in_table (Quarter q) = line_in quarters (shape_of q.op)
 in_table (Zero m) = Memᴰ.tail (Memᴰ.tail (Memᴰ.tail (Memᴰ.tail (Memᴰ.head refl))))
 
 -- there are as many tiles as the number of its shape's tile has values
@@ -286,30 +283,31 @@ tiles_are op h = go op.wide op.two_way h
     go true true e = let z : true ≡ false = sym e in cc
 
 -- of any shape it fits its family's widest row
-pub predicated_range : (op : Operation) (tile : Tile) (pn pm : Predicate) (zn zm : Vector) → in_range (Predicated op tile pn pm zn zm) ≡ true
-    → Fit predicated64 (fields_from (Predicated op tile pn pm zn zm))
-predicated_range op tile pn pm zn zm h =
-    let p = every_all (ranges (Predicated op tile pn pm zn zm)) h in
-    omega (arith, ltb-true, element-between op, bits_lt op)
+pub predicated_range : (p : PredicatedProduct) → in_range (Predicated p) ≡ true → Fit predicated64 (fields_from (Predicated p))
+predicated_range p h =
+    let t = every_all (ranges (Predicated p)) h in
+    omega (arith, ltb-true, element-between p.op, bits_lt p.op)
 
-pub quarter_range : (op : Operation) (tile : Tile) (first second : Source) → in_range (Quarter op tile first second) ≡ true
-    → Fit quarter64 (fields_from (Quarter op tile first second)) × (register first ≤ 14) × (16 ≤ register second) × (register second ≤ 30)
-quarter_range op tile first second h =
-    let p = every_all (ranges (Quarter op tile first second)) h in
-    omega (arith, ltb-true, leb-true, element-between op, bits_lt op, bit_lt (is_pair first), bit_lt (is_pair second))
+pub quarter_range : (q : QuarterProduct) → in_range (Quarter q) ≡ true
+    → Fit quarter64 (fields_from (Quarter q)) × (register q.first ≤ 14) × (16 ≤ register q.second) × (register q.second ≤ 30)
+quarter_range q h =
+    let t = every_all (ranges (Quarter q)) h in
+    omega (arith, ltb-true, leb-true, element-between q.op, bits_lt q.op, bit_lt (is_pair q.first), bit_lt (is_pair q.second))
 
 -- and its own
 pub range_fit : (i : Instruction) → in_range i ≡ true → Fit (entry_of i).row (fields_from i)
-range_fit (Predicated op tile pn pm zn zm) h =
-    let i = Predicated op tile pn pm zn zm in
-    let p = (every_all (ranges i) h).1 in
-    let t = predicated_range op tile pn pm zn zm h in
+range_fit (Predicated p) h =
+    let i = Predicated p in
+    let op = p.op in
+    let r = (every_all (ranges i) h).1 in
+    let t = predicated_range p h in
     let e = tiles_are op (every_all (ranges i) h).0 in
     whole (Within (fields_from i)) predicates (shape_of op) (signs_fit (shape_of op) _ (bit_lt op.u0) (bit_lt op.u1)) (omega (arith, ltb-true))
-range_fit (Quarter op tile first second) h =
-    let i = Quarter op tile first second in
-    let p = (every_all (ranges i) h).1 in
-    let t = quarter_range op tile first second h in
+range_fit (Quarter q) h =
+    let i = Quarter q in
+    let op = q.op in
+    let r = (every_all (ranges i) h).1 in
+    let t = quarter_range q h in
     let e = tiles_are op (every_all (ranges i) h).0 in
     whole (Within (fields_from i)) quarters (shape_of op) (signs_fit (shape_of op) _ (bit_lt op.u0) (bit_lt op.u1)) (omega (arith, ltb-true))
 range_fit (Zero m) h = let p = every_all (ranges (Zero m)) h in omega (arith, ltb-true)
@@ -365,18 +363,18 @@ make_agree quarters s f g a =
     cc
 
 make_back : (i : Instruction) (f : Fields) → in_range i ≡ true → Agree (entry_of i).row f (fields_from i) → (entry_of i).make f ≡ i
-make_back (Predicated op tile pn pm zn zm) f h a =
-    let i = Predicated op tile pn pm zn zm in
-    make_agree predicates (shape_of op) f (fields_from i) a
-    ∙ rw (operation_back op (fields_from i) (every_all (ranges i) h).0 refl refl refl)
-make_back (Quarter op tile first second) f h a =
-    let i = Quarter op tile first second in
+make_back (Predicated p) f h a =
+    let i = Predicated p in
+    make_agree predicates (shape_of p.op) f (fields_from i) a
+    ∙ rw (operation_back p.op (fields_from i) (every_all (ranges i) h).0 refl refl refl)
+make_back (Quarter q) f h a =
+    let i = Quarter q in
     let p = (every_all (ranges i) h).1 in
-    make_agree quarters (shape_of op) f (fields_from i) a
+    make_agree quarters (shape_of q.op) f (fields_from i) a
     ∙ rw (
-      operation_back op (fields_from i) (every_all (ranges i) h).0 refl refl refl,
-      source_back first (2 * (register first / 2)) (omega (arith, eqb-true)),
-      source_back second (16 + 2 * ((register second - 16) / 2)) (omega (arith, eqb-true, leb-true)),
+      operation_back q.op (fields_from i) (every_all (ranges i) h).0 refl refl refl,
+      source_back q.first (2 * (register q.first / 2)) (omega (arith, eqb-true)),
+      source_back q.second (16 + 2 * ((register q.second - 16) / 2)) (omega (arith, eqb-true, leb-true)),
     )
 make_back (Zero m) f h a = ap Zero a.0
 

@@ -6,13 +6,13 @@ use Prim.Native.Nat.{ℕ, ◌≤◌, ◌<◌, ◌^◌}
 use native.Mathlib.Omega.{arith}
 use lib.Dec.{eqb, ltb}
 use borrow.Author.Tests.{eq-eqb, ne_eqb, eqb-true, eqb-false, ltb-true, ltb-false}
+use Rattle.std.specs.Prelude.{Err, Ok}
+use Rattle.isa.specs.Refusals.{number_in, value_in}
 use Rattle.isa.specs.Table.{Entry, table, all_flags, lacking, described, entry_of, in_range, word_for}
-use Rattle.isa.specs.Answers.{lookup, described_by, describe, missing, decode_tests, decode_of, decoded_number, decode_number, decode_missing, encoded_number, encoded_word, encode_number}
+use Rattle.isa.specs.Answers.{lookup, described_by, describe, missing, decode_tests, decode_of, decode_number, decode_missing, encode_number}
 use Rattle.isa.specs.Claims.{Listed, FeaturesOn, HandsBack, Decodes, OnlyWord, Encodes, Describes, OneLine}
 use Rattle.isa.specs.declared.Instruction.{Instruction}
 use Rattle.isa.specs.declared.Refusal.TheVariants.{Unlisted, FeatureOff}
-use Rattle.isa.specs.declared.Decoded.TheVariants.{Accepted, Refused as NotDecoded}
-use Rattle.isa.specs.declared.Encoded.TheVariants.{Word}
 use Rattle.isa.proofs.Lines.{in_table, described_range, described-word, word-described}
 use Rattle.isa.proofs.Lookup.{lookup_found, lookup-some, lookup-none}
 use Rattle.isa.proofs.Lookup.{one_line as lookup_one_line}
@@ -45,16 +45,16 @@ lacking_features flags w e p z x m q =
 
 -- ---- the answer in each case
 accepted_when : (flags w : ℕ) → flags ≤ all_flags → Listed w → FeaturesOn flags w
-    → (i : Instruction) × (decode_of flags w ≡ Accepted i) × (describe w ≡ some i)
+    → (i : Instruction) × (decode_of flags w ≡ Ok i) × (describe w ≡ some i)
 unfolding listed_found
 accepted_when flags w h l f =
     let (e, p) = listed_found w l in
     (described e w, decode_listed flags w e h p ∙ rw (eq-eqb _ 0 (features_lacking flags w e p f)), describe_found w l.1 l.2)
 
-unlisted_when : (flags w : ℕ) → flags ≤ all_flags → (Listed w → ⊥) → decode_of flags w ≡ NotDecoded Unlisted
+unlisted_when : (flags w : ℕ) → flags ≤ all_flags → (Listed w → ⊥) → decode_of flags w ≡ Err Unlisted
 unlisted_when flags w h l = decode_unlisted flags w h (not_listed w l)
 
-feature_when : (flags w : ℕ) → flags ≤ all_flags → Listed w → (FeaturesOn flags w → ⊥) → decode_of flags w ≡ NotDecoded (FeatureOff (missing flags w))
+feature_when : (flags w : ℕ) → flags ≤ all_flags → Listed w → (FeaturesOn flags w → ⊥) → decode_of flags w ≡ Err (FeatureOff (missing flags w))
 unfolding listed_found
 feature_when flags w h l f =
     let (e, p) = listed_found w l in
@@ -120,10 +120,10 @@ module _ (flags w : ℕ) where
 pub decodes : (flags w : ℕ) → Decodes flags w
 decodes flags w =
     record {
-      accepts = (λ p. is_accepted flags w (at flags w p), λ c. ap decoded_number (accepted_when flags w c.0 c.1 c.2).1);
-      gives_1 = (λ p. is_1 flags w (at flags w p), λ h. ap decoded_number (decode_flags flags w h));
-      gives_7 = (λ p. is_7 flags w (at flags w p), λ c. ap decoded_number (unlisted_when flags w c.0 c.1));
-      gives_8 = (λ p. is_8 flags w (at flags w p), λ c. ap decoded_number (feature_when flags w c.0 c.1 c.2));
+      accepts = (λ p. is_accepted flags w (at flags w p), λ c. ap number_in (accepted_when flags w c.0 c.1 c.2).1);
+      gives_1 = (λ p. is_1 flags w (at flags w p), λ h. ap number_in (decode_flags flags w h));
+      gives_7 = (λ p. is_7 flags w (at flags w p), λ c. ap number_in (unlisted_when flags w c.0 c.1));
+      gives_8 = (λ p. is_8 flags w (at flags w p), λ c. ap number_in (feature_when flags w c.0 c.1 c.2));
       describes = λ i p. (decode_passed flags w i p).1;
       missing_none = (none-missing flags w, missing_none flags w);
       missing_is = missing_is flags w;
@@ -164,8 +164,8 @@ described_is w i h p =
 
 -- encode's number tells whether a description is in range
 range_number : (i : Instruction) (b : Bool) → in_range i ≡ b → encode_number i ≡ cond b 0 11
-range_number i true h = ap encoded_number (encode_in_range i h)
-range_number i false h = ap encoded_number (encode_out_of_range i h)
+range_number i true h = ap number_in (encode_in_range i h)
+range_number i false h = ap number_in (encode_out_of_range i h)
 
 number_range : (i : Instruction) (b : Bool) → encode_number i ≡ cond b 0 11 → in_range i ≡ b
 number_range i b p = go (in_range i) b (sym (range_number i (in_range i) refl) ∙ p)
@@ -191,7 +191,7 @@ encodes i =
           rw e
           (decode_listed flags (word_for i) (entry_of i) h (lookup_found (word_for i) (in_table i) l.hit)
           ∙ rw (eq-eqb _ 0 (on-lacking flags (entry_of i).needs f), l.back));
-      only_word = λ p. let h = number_range i true p in subst (OnlyWord i) (sym (ap encoded_word (encode_in_range i h))) (only_word i h);
+      only_word = λ p. let h = number_range i true p in subst (OnlyWord i) (sym (ap value_in (encode_in_range i h))) (only_word i h);
       accepts = (number_range i true, range_number i true);
       gives_11 = (number_range i false, range_number i false);
     }
@@ -206,7 +206,7 @@ describes w h l =
       record {
         is = d;
         is_in_range = o.is_in_range;
-        encoded = encode_in_range (described e w) o.is_in_range ∙ ap Word o.word;
+        encoded = encode_in_range (described e w) o.is_in_range ∙ ap Ok o.word;
         only =
             λ j p.
             let (r, q) = encoded j w p in
@@ -220,5 +220,5 @@ pub one_line : (w : ℕ) → OneLine w
 one_line = lookup_one_line
 
 -- what decode accepts is in range: the promise that callers of decode rest on
-pub accepted_in_range : (flags w : ℕ) (i : Instruction) → decode_of flags w ≡ Accepted i → in_range i ≡ true
+pub accepted_in_range : (flags w : ℕ) (i : Instruction) → decode_of flags w ≡ Ok i → in_range i ≡ true
 accepted_in_range flags w i p = described_in_range w i (decode_passed flags w i p).1

@@ -1,14 +1,12 @@
 -- What demand 2, and document 02, C-15, ask of words and descriptions, as statements; proofs/Theorems.antt proves each for
 -- every input.
-use Rattle.std.specs.Prelude.{◌≡◌, true, false, cond, ◌↔◌, ℕ, ◌≤◌, ◌<◌, ◌^◌, length}
+use Rattle.std.specs.Prelude.{◌≡◌, true, false, cond, ◌↔◌, ℕ, ◌≤◌, ◌<◌, ◌^◌, length, Ok}
 use mathlib.Core.List.{List, [], ◌∷◌, Memᴰ}
 use Rattle.std.proofs.Math.Option.{some}
 use Rattle.isa.specs.Row.{matches}
 use Rattle.isa.specs.Table.{Feature, Entry, table, all_flags, on, entry_of, in_range}
 use Rattle.isa.specs.Answers.{describe, missing, decode_of, decode_number, decode_missing, encode_of, encode_number, encode_word}
 use Rattle.isa.specs.declared.Instruction.{Instruction}
-use Rattle.isa.specs.declared.Decoded.TheVariants.{Accepted}
-use Rattle.isa.specs.declared.Encoded.TheVariants.{Word}
 
 -- a word matches some line of the table
 abbrev pub Listed : ℕ → Type 0
@@ -39,7 +37,7 @@ pub record Decodes (flags w : ℕ) : Type 0 where
   pub gives_1 : (decode_number flags w ≡ 1) ↔ (all_flags < flags)
   pub gives_7 : (decode_number flags w ≡ 7) ↔ (flags ≤ all_flags) × (Listed w → ⊥)
   pub gives_8 : (decode_number flags w ≡ 8) ↔ (flags ≤ all_flags) × Listed w × (FeaturesOn flags w → ⊥)
-  pub describes : (i : Instruction) → decode_of flags w ≡ Accepted i → describe w ≡ some i
+  pub describes : (i : Instruction) → decode_of flags w ≡ Ok i → describe w ≡ some i
   pub missing_none : (missing flags w ≡ 0) ↔ FeaturesOn flags w
   pub missing_is : (f : Feature) → (on (missing flags w) f ≡ true) ↔ Needs w f × (on flags f ≡ false)
   pub missing_most : missing flags w ≤ all_flags
@@ -53,8 +51,8 @@ pub record OnlyWord (i : Instruction) (w : ℕ) : Type 0 where
 
 -- a description in range has one word, which encode gives and decode takes back; any other gets 11
 pub record Encodes (i : Instruction) : Type 0 where
-  pub word : in_range i ≡ true → (w : ℕ) × (encode_of i ≡ Word w) × OnlyWord i w
-  pub back : (flags w : ℕ) → encode_of i ≡ Word w → flags ≤ all_flags → AllOn flags (entry_of i).needs → decode_of flags w ≡ Accepted i
+  pub word : in_range i ≡ true → (w : ℕ) × (encode_of i ≡ Ok w) × OnlyWord i w
+  pub back : (flags w : ℕ) → encode_of i ≡ Ok w → flags ≤ all_flags → AllOn flags (entry_of i).needs → decode_of flags w ≡ Ok i
   pub only_word : encode_number i ≡ 0 → OnlyWord i (encode_word i)
   pub accepts : (encode_number i ≡ 0) ↔ (in_range i ≡ true)
   pub gives_11 : (encode_number i ≡ 11) ↔ (in_range i ≡ false)
@@ -63,8 +61,8 @@ pub record Encodes (i : Instruction) : Type 0 where
 pub record Describes (w : ℕ) (i : Instruction) : Type 0 where
   pub is : describe w ≡ some i
   pub is_in_range : in_range i ≡ true
-  pub encoded : encode_of i ≡ Word w
-  pub only : (j : Instruction) → encode_of j ≡ Word w → j ≡ i
+  pub encoded : encode_of i ≡ Ok w
+  pub only : (j : Instruction) → encode_of j ≡ Ok w → j ≡ i
 
 -- the lines of a table that a word matches
 abbrev pub lines_of : List Entry → ℕ → List Entry

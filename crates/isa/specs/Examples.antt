@@ -3,10 +3,12 @@
 -- disassembler: three for each row of the table that has two fields or more, in which every two of its fields differ
 -- somewhere, both signs stand alone and, where the row allows it, mixed, and both values of S, N and M occur; each with the
 -- least flags that allow it; then words that are refused.
-use Rattle.std.specs.Prelude.{Bool, true, false, List, [], ◌∷◌, ℕ, zero, suc, ◌-◌}
+use Rattle.std.specs.Prelude.{Bool, true, false, List, [], ◌∷◌, ℕ, zero, suc, ◌-◌, Err, Ok, Result}
 use Rattle.std.proofs.Math.Option.{Option, none, some}
+use Rattle.isa.specs.Refusals.{missing_beside, number_in}
 use Rattle.isa.specs.Table.{all_flags, is_wide, is_two_way, lacking, Entry}
-use Rattle.isa.specs.Answers.{decode_of, decoded_number, decoded_missing}
+use Rattle.isa.specs.Answers.{decode_of}
+use Rattle.isa.specs.declared.Refusal.{Refusal}
 use Rattle.isa.specs.declared.Shape.{Shape}
 use Rattle.isa.specs.declared.Shape.TheVariants.{Bytes32, Halves64, Halves32}
 use Rattle.isa.specs.declared.Operation.{Operation}
@@ -14,8 +16,6 @@ use Rattle.isa.specs.declared.Source.{Source}
 use Rattle.isa.specs.declared.Source.TheVariants.{One, Pair}
 use Rattle.isa.specs.declared.Instruction.{Instruction}
 use Rattle.isa.specs.declared.Instruction.TheVariants.{Predicated, Quarter, Zero}
-use Rattle.isa.specs.declared.Decoded.{Decoded}
-use Rattle.isa.specs.declared.Decoded.TheVariants.{Accepted, Refused}
 
 -- ---- words
 -- the number that decode gives with these flags (0: accepted), the sum that it hands back, and the instruction
@@ -58,10 +58,10 @@ umop = mop true true
 -- an instruction by its operands, in the order of its text
 abbrev pub a_predicated : Operation → ℕ → ℕ → ℕ → ℕ → ℕ → Option Instruction
 a_predicated op tile pn pm zn zm =
-    some (Predicated op (record { 0 = tile }) (record { 0 = pn }) (record { 0 = pm }) (record { 0 = zn }) (record { 0 = zm }))
+    some (Predicated (record { op = op; tile = record { 0 = tile }; pn = record { 0 = pn }; pm = record { 0 = pm }; zn = record { 0 = zn }; zm = record { 0 = zm } }))
 
 abbrev pub a_quarter : Operation → ℕ → Source → Source → Option Instruction
-a_quarter op tile first second = some (Quarter op (record { 0 = tile }) first second)
+a_quarter op tile first second = some (Quarter (record { op = op; tile = record { 0 = tile }; first = first; second = second }))
 
 abbrev pub z : ℕ → Source
 z n = One (record { 0 = n })
@@ -121,9 +121,9 @@ examples =
     ∷ record { flags = 16; word = 0xA0B9D783; number = 1; missing = 0; is = none }
     ∷ []
 
-abbrev pub accepted : Decoded → Option Instruction
-accepted (Accepted i) = some i
-accepted (Refused r) = none
+abbrev pub accepted : Result Instruction Refusal → Option Instruction
+accepted (Ok i) = some i
+accepted (Err r) = none
 
 -- an example with what decode answers in place of what it should
 abbrev pub replayed : Example → Example
@@ -132,8 +132,8 @@ replayed e =
     record {
       flags = e.flags;
       word = e.word;
-      number = decoded_number answer;
-      missing = decoded_missing answer;
+      number = number_in answer;
+      missing = missing_beside answer;
       is = accepted answer;
     }
 

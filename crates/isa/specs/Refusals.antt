@@ -1,6 +1,6 @@
 -- Refusals: their numbers, what 8 hands back, and the order of tests (document 01, "Refusal numbers", and document 02, C-11,
 -- C-15, C-17 and C-20).
-use Rattle.std.specs.Prelude.{Bool, cond, List, [], ◌∷◌, ℕ}
+use Rattle.std.specs.Prelude.{Bool, cond, List, [], ◌∷◌, ℕ, Result, Ok, Err}
 use Rattle.std.proofs.Math.Option.{Option, none, some}
 use Rattle.isa.specs.declared.Refusal.{Refusal}
 use Rattle.isa.specs.declared.Refusal.TheVariants.{Flags, VectorLength, ZLength, PLength, ZaLength, ListLength, Unlisted, FeatureOff, StreamingOff, ZaOff, OutOfRange, Room, NotText, NotCleared, Version, Format}
@@ -50,6 +50,22 @@ refusal_number (some r) = number r
 abbrev pub refusal_missing : Option Refusal → ℕ
 refusal_missing none = 0
 refusal_missing (some r) = missing_in r
+
+-- the refusal of an answer, if it has one, and what the paper has of an answer: the refusal's number, the sum that is handed
+-- back beside it, and where the answer is a number, that number, which is 0 beside a refusal
+abbrev pub refusal_in : {A : Type 0} → Result A Refusal → Option Refusal
+refusal_in (Ok a) = none
+refusal_in (Err r) = some r
+
+abbrev pub number_in : {A : Type 0} → Result A Refusal → ℕ
+number_in a = refusal_number (refusal_in a)
+
+abbrev pub missing_beside : {A : Type 0} → Result A Refusal → ℕ
+missing_beside a = refusal_missing (refusal_in a)
+
+abbrev pub value_in : Result ℕ Refusal → ℕ
+value_in (Ok v) = v
+value_in (Err r) = 0
 
 -- a test that input may fail, and the refusal that it then gets
 pub record Test : Type 0 where

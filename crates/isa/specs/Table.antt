@@ -106,12 +106,26 @@ source pair n = cond pair (Pair (record { 0 = n })) (One (record { 0 = n }))
 
 abbrev pub predicated_of_fields : Shape → Fields → Instruction
 predicated_of_fields s f =
-    Predicated (operation_of_fields s f) (record { 0 = f ZAda }) (record { 0 = f Pn }) (record { 0 = f Pm }) (record { 0 = f Zn }) (record { 0 = f Zm })
+    Predicated
+    (record {
+      op = operation_of_fields s f;
+      tile = record { 0 = f ZAda };
+      pn = record { 0 = f Pn };
+      pm = record { 0 = f Pm };
+      zn = record { 0 = f Zn };
+      zm = record { 0 = f Zm };
+    })
 
 -- the first source starts at register 2·Zn, the second at 16 + 2·Zm
 abbrev pub quarter_of_fields : Shape → Fields → Instruction
 quarter_of_fields s f =
-    Quarter (operation_of_fields s f) (record { 0 = f ZAda }) (source (one? (f N)) (2 * f Zn)) (source (one? (f M)) (16 + 2 * f Zm))
+    Quarter
+    (record {
+      op = operation_of_fields s f;
+      tile = record { 0 = f ZAda };
+      first = source (one? (f N)) (2 * f Zn);
+      second = source (one? (f M)) (16 + 2 * f Zm);
+    })
 
 abbrev pub zero_of_fields : Fields → Instruction
 zero_of_fields f = Zero (f mask)
@@ -169,8 +183,8 @@ abbrev pub shape_of : Operation → Shape
 shape_of op = cond op.two_way Halves32 (cond op.wide Halves64 Bytes32)
 
 abbrev pub entry_of : Instruction → Entry
-entry_of (Predicated op tile pn pm zn zm) = predicated (shape_of op)
-entry_of (Quarter op tile first second) = quarter (shape_of op)
+entry_of (Predicated p) = predicated (shape_of p.op)
+entry_of (Quarter q) = quarter (shape_of q.op)
 entry_of (Zero m) = zeroing
 
 abbrev pub bit : Bool → ℕ
@@ -191,14 +205,14 @@ assign [] n = 0
 assign (a ∷ more) n = cond (same a.0 n) a.1 (assign more n)
 
 abbrev pub fields_from : Instruction → Fields
-fields_from (Predicated op tile pn pm zn zm) =
+fields_from (Predicated p) =
     assign
-    ((u0, bit op.u0) ∷ (u1, bit op.u1) ∷ (Zm, zm.0) ∷ (Pm, pm.0) ∷ (Pn, pn.0) ∷ (Zn, zn.0)
-    ∷ (S, bit op.subtract) ∷ (ZAda, tile.0) ∷ [])
-fields_from (Quarter op tile first second) =
+    ((u0, bit p.op.u0) ∷ (u1, bit p.op.u1) ∷ (Zm, p.zm.0) ∷ (Pm, p.pm.0) ∷ (Pn, p.pn.0) ∷ (Zn, p.zn.0)
+    ∷ (S, bit p.op.subtract) ∷ (ZAda, p.tile.0) ∷ [])
+fields_from (Quarter q) =
     assign
-    ((u0, bit op.u0) ∷ (u1, bit op.u1) ∷ (M, bit (is_pair second)) ∷ (Zm, (register second - 16) / 2)
-    ∷ (N, bit (is_pair first)) ∷ (Zn, register first / 2) ∷ (S, bit op.subtract) ∷ (ZAda, tile.0) ∷ [])
+    ((u0, bit q.op.u0) ∷ (u1, bit q.op.u1) ∷ (M, bit (is_pair q.second)) ∷ (Zm, (register q.second - 16) / 2)
+    ∷ (N, bit (is_pair q.first)) ∷ (Zn, register q.first / 2) ∷ (S, bit q.op.subtract) ∷ (ZAda, q.tile.0) ∷ [])
 fields_from (Zero m) = assign ((mask, m) ∷ [])
 
 -- the word of a description
@@ -224,12 +238,13 @@ abbrev pub is_formed : Operation → Bool
 is_formed op = cond op.two_way (not op.wide && eqb (bit op.u0) (bit op.u1)) true
 
 abbrev pub ranges : Instruction → List Bool
-ranges (Predicated op tile pn pm zn zm) =
-    is_formed op ∷ ltb tile.0 (tiles_of (element_bytes op)) ∷ ltb pn.0 8 ∷ ltb pm.0 8 ∷ ltb zn.0 32 ∷ ltb zm.0 32 ∷ []
-ranges (Quarter op tile first second) =
-    is_formed op ∷ ltb tile.0 (tiles_of (element_bytes op))
-    ∷ eqb (register first % 2) 0 ∷ leb (register first) 14
-    ∷ eqb (register second % 2) 0 ∷ leb 16 (register second) ∷ leb (register second) 30 ∷ []
+ranges (Predicated p) =
+    is_formed p.op ∷ ltb p.tile.0 (tiles_of (element_bytes p.op))
+    ∷ ltb p.pn.0 8 ∷ ltb p.pm.0 8 ∷ ltb p.zn.0 32 ∷ ltb p.zm.0 32 ∷ []
+ranges (Quarter q) =
+    is_formed q.op ∷ ltb q.tile.0 (tiles_of (element_bytes q.op))
+    ∷ eqb (register q.first % 2) 0 ∷ leb (register q.first) 14
+    ∷ eqb (register q.second % 2) 0 ∷ leb 16 (register q.second) ∷ leb (register q.second) 30 ∷ []
 ranges (Zero m) = ltb m 256 ∷ []
 
 abbrev pub in_range : Instruction → Bool

@@ -5,6 +5,7 @@ mod decoder;
 mod encoder;
 mod numbers;
 mod sizes;
+mod table;
 
 pub use decoder::{ALL_FLAGS, check, decode, flags_legal, source_of};
 pub use encoder::{encode, is_pair, register_of};
@@ -12,13 +13,13 @@ pub use numbers::{missing_in, number};
 pub use sizes::{element_bytes, products, source_bytes};
 
 // Numbers of tiles, vectors and predicates: kinds that can't stand for one another.
-#[derive(Clone, Copy)]
+#[derive(Clone, Copy, PartialEq, Eq)]
 pub struct Tile(pub u32);
 
-#[derive(Clone, Copy)]
+#[derive(Clone, Copy, PartialEq, Eq)]
 pub struct Vector(pub u32);
 
-#[derive(Clone, Copy)]
+#[derive(Clone, Copy, PartialEq, Eq)]
 pub struct Predicate(pub u32);
 
 // A quarter-tile source: one register, or a pair of neighbours given by its first.
@@ -39,23 +40,31 @@ pub struct Operation {
     pub subtract: bool,
 }
 
-// The description of a word.
+// An outer product of two vectors, each governed by a predicate.
+#[derive(Clone, Copy)]
+pub struct PredicatedProduct {
+    pub op: Operation,
+    pub tile: Tile,
+    pub pn: Predicate,
+    pub pm: Predicate,
+    pub zn: Vector,
+    pub zm: Vector,
+}
+
+// An outer product of two quarter-tile sources.
+#[derive(Clone, Copy)]
+pub struct QuarterProduct {
+    pub op: Operation,
+    pub tile: Tile,
+    pub first: Source,
+    pub second: Source,
+}
+
+// The description of a word; ZERO's is its mask of 64-bit tiles.
 #[derive(Clone, Copy)]
 pub enum Instruction {
-    Predicated {
-        op: Operation,
-        tile: Tile,
-        pn: Predicate,
-        pm: Predicate,
-        zn: Vector,
-        zm: Vector,
-    },
-    Quarter {
-        op: Operation,
-        tile: Tile,
-        first: Source,
-        second: Source,
-    },
+    Predicated(PredicatedProduct),
+    Quarter(QuarterProduct),
     Zero(u8),
 }
 
@@ -67,22 +76,17 @@ pub enum Shape {
     Halves32,
 }
 
-// A line of the table, or none.
+// A line of the table: a family of outer products and their shape, or ZERO.
 #[derive(Clone, Copy)]
 pub enum Line {
-    Predicated32,
-    Predicated64,
-    Quarter32,
-    Quarter64,
+    Predicated(Shape),
+    Quarter(Shape),
     Zero,
-    PredicatedTwoWay,
-    QuarterTwoWay,
-    Unlisted,
 }
 
 // Why input is refused; `number` gives each its number, and each function says which it tests, and in which order. A word
 // that needs a feature that is off is refused with the sum of the flags that it misses.
-#[derive(Clone, Copy)]
+#[derive(Clone, Copy, PartialEq, Eq)]
 pub enum Refusal {
     Flags,
     VectorLength,
@@ -100,23 +104,4 @@ pub enum Refusal {
     NotCleared,
     Version,
     Format,
-}
-
-// check's answer: nothing is refused, or why something is.
-#[derive(Clone, Copy)]
-pub enum Checked {
-    Passed,
-    Refused(Refusal),
-}
-
-#[derive(Clone, Copy)]
-pub enum Decoded {
-    Accepted(Instruction),
-    Refused(Refusal),
-}
-
-#[derive(Clone, Copy)]
-pub enum Encoded {
-    Word(u32),
-    Refused(Refusal),
 }

@@ -16,7 +16,7 @@ pub fn number(r: Refusal) -> u32
         Refusal::ZaLength => 5,
         Refusal::ListLength => 6,
         Refusal::Unlisted => 7,
-        Refusal::FeatureOff { missing: _ } => 8,
+        Refusal::FeatureOff { .. } => 8,
         Refusal::StreamingOff => 9,
         Refusal::ZaOff => 10,
         Refusal::OutOfRange => 11,
@@ -33,21 +33,7 @@ pub fn missing_in(r: Refusal) -> u32
     ensures { result ≡ missing_in r }
 {
     match r {
-        Refusal::Flags => 0,
-        Refusal::VectorLength => 0,
-        Refusal::ZLength => 0,
-        Refusal::PLength => 0,
-        Refusal::ZaLength => 0,
-        Refusal::ListLength => 0,
-        Refusal::Unlisted => 0,
         Refusal::FeatureOff { missing } => missing,
-        Refusal::StreamingOff => 0,
-        Refusal::ZaOff => 0,
-        Refusal::OutOfRange => 0,
-        Refusal::Room => 0,
-        Refusal::NotText => 0,
-        Refusal::NotCleared => 0,
-        Refusal::Version => 0,
-        Refusal::Format => 0,
+        _ => 0,
     }
 }

@@ -8,16 +8,14 @@ use crate::Operation;
 pub fn element_bytes(op: Operation) -> u32
     ensures { result ≡ element_bytes op }
 {
-    let wide = op.wide;
-    if wide { 8 } else { 4 }
+    if op.wide { 8 } else { 4 }
 }
 
 // How many products come to a tile element.
 pub fn products(op: Operation) -> u32
     ensures { result ≡ products_of op }
 {
-    let two_way = op.two_way;
-    if two_way { 2 } else { 4 }
+    if op.two_way { 2 } else { 4 }
 }
 
 // Bytes of a source element.

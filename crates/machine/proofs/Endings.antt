@@ -10,7 +10,7 @@ use native.Mathlib.Omega.{arith}
 use lib.Dec.{eqb}
 use lib.ListN.{length, get_or, take}
 use borrow.Author.Tests.{eqb-true, eq-eqb}
-use Rattle.isa.specs.Refusals.{number, first_failure}
+use Rattle.isa.specs.Refusals.{number, first_failure, missing_beside, number_in}
 use Rattle.isa.specs.Answers.{describe}
 use Rattle.isa.specs.Claims.{HandsBack}
 use Rattle.isa.specs.declared.Refusal.{Refusal}
@@ -23,7 +23,7 @@ use Rattle.machine.specs.declared.Bench.{Bench}
 use Rattle.machine.specs.declared.Ended.{Ended}
 use Rattle.machine.specs.Machine.{Machine}
 use Rattle.machine.specs.Instructions.{TileName, tile_named, is_tile}
-use Rattle.machine.specs.Execution.{machine_tests, word_tests, word_refusal, outcome_number, outcome_missing}
+use Rattle.machine.specs.Execution.{machine_tests, word_tests, word_refusal}
 use Rattle.machine.specs.Clearing.{clears_row, cleared_by, tile_cleared, cleared_test}
 use Rattle.machine.specs.Lists.{played, Progress, at_start, onward, next_tests, next_refusal, ended, keep, before, stop}
 use Rattle.machine.specs.Claims.{execute_number, BenchPasses, Uncleared, UnclearedAt, Ends}
@@ -153,7 +153,7 @@ leaves_whole (at-word n r l e) = (λ e. absurd (omega (arith, number_positive r)
 
 -- what is handed back where a run ends
 abbrev pub HandedAt : Machine → List ℕ → Ended → Type 0
-HandedAt m ws r = HandsBack m.bench.flags (get_or ws r.count 0) (outcome_number r.outcome) (outcome_missing r.outcome)
+HandedAt m ws r = HandsBack m.bench.flags (get_or ws r.count 0) (number_in r.outcome) (missing_beside r.outcome)
 
 next_fair : (b : Bench) (cleared : ℕ → Bool) (w : ℕ) → Fair b.flags w (next_tests b cleared w)
 next_fair b cleared w =

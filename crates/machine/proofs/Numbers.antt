@@ -8,28 +8,26 @@ use Prim.Native.Nat.{ℕ, ◌≤◌, ◌<◌}
 use native.Mathlib.Omega.{arith}
 use lib.Dec.{eqb, ltb}
 use borrow.Author.Tests.{lt-ltb, le-ltb, eq-eqb, ne_eqb, ltb-true, ltb-false, eqb-true, eqb-false}
-use Rattle.isa.specs.Refusals.{refusal_number, refusal_missing, first_failure, or_else}
+use Rattle.std.specs.Prelude.{Err, Ok, Result}
+use Rattle.isa.specs.Refusals.{refusal_number, refusal_missing, first_failure, or_else, missing_beside, number_in}
 use Rattle.isa.specs.Table.{all_flags}
 use Rattle.isa.specs.Answers.{describe, missing, absent, listing_tests, decode_of, decode_number}
 use Rattle.isa.specs.declared.Refusal.{Refusal}
 use Rattle.isa.specs.declared.Refusal.TheVariants.{Flags, VectorLength, ZLength, PLength, ZaLength, ListLength, Unlisted, FeatureOff, StreamingOff, ZaOff}
-use Rattle.isa.specs.declared.Decoded.{Decoded}
-use Rattle.isa.specs.declared.Decoded.TheVariants.{Accepted, Refused as NotDecoded}
 use Rattle.isa.proofs.Refusals.{failure-++}
 use Rattle.isa.proofs.Sums.{plain_sum}
 use Rattle.storage.specs.Sizes.{legal, z_size, p_size, za_size}
 use Rattle.machine.specs.declared.Bench.{Bench}
 use Rattle.machine.specs.Instructions.{modes_of}
 use Rattle.machine.specs.declared.Modes.{Modes}
-use Rattle.machine.specs.declared.Outcome.{Outcome}
-use Rattle.machine.specs.Execution.{bench_tests, word_tests, outcome, outcome_number, outcome_missing}
+use Rattle.machine.specs.Execution.{bench_tests, word_tests, outcome}
 use Rattle.machine.specs.Lists.{most_words, list_test, start_tests}
 use Rattle.machine.specs.Claims.{Passes, FirstFive}
 use Rattle.machine.proofs.Tests.{outcome_back, listing_refused, listing-accepted}
 
 -- the number of an answer, 0 for none
 abbrev pub number_of : Option Refusal → ℕ
-number_of o = outcome_number (outcome o)
+number_of o = number_in (outcome o)
 
 -- a number that is none of 1 to 5
 abbrev pub Late : ℕ → Type 0
@@ -91,17 +89,17 @@ module _ (b : Bench) (z p za : ℕ) where
       start_none l = start_by none h ∙ rw (le-ltb most_words words l)
 
     -- an answer and its numbers; none of these tests hands anything back
-    pub start-answered : {a : Outcome} → a ≡ outcome (first_failure (start_tests b z p za words)) → record {
+    pub start-answered : {a : Result Unit Refusal} → a ≡ outcome (first_failure (start_tests b z p za words)) → record {
       answer : a ≡ outcome (first_failure (start_tests b z p za words));
-      number : outcome_number a ≡ refusal_number (first_failure (start_tests b z p za words));
-      missing : outcome_missing a ≡ 0;
+      number : number_in a ≡ refusal_number (first_failure (start_tests b z p za words));
+      missing : missing_beside a ≡ 0;
     }
     start-answered e =
         let back = outcome_back (first_failure (start_tests b z p za words)) in
         record {
           answer = e;
-          number = ap outcome_number e ∙ ap refusal_number back;
-          missing = ap outcome_missing e ∙ ap refusal_missing back ∙ plain_sum (start_tests b z p za words) refl;
+          number = ap number_in e ∙ ap refusal_number back;
+          missing = ap missing_beside e ∙ ap refusal_missing back ∙ plain_sum (start_tests b z p za words) refl;
         }
 
     pub start_passes : Passes b z p za → words ≤ most_words → first_failure (start_tests b z p za words) ≡ none
@@ -280,9 +278,9 @@ module _ (b : Bench) (w : ℕ) where
   decode_number_lem : b.flags ≤ all_flags → decode_number b.flags w ≡ number_of (first_failure (listing_tests b.flags w))
   decode_number_lem f = go (decode_of b.flags w) refl
     where
-      go : (d : Decoded) → decode_of b.flags w ≡ d → decode_number b.flags w ≡ number_of (first_failure (listing_tests b.flags w))
-      go (NotDecoded r) e = rw (e, listing_refused b w f r e)
-      go (Accepted i) e = rw (e, listing-accepted b w f i e)
+      go : (d : Result Instruction Refusal) → decode_of b.flags w ≡ d → decode_number b.flags w ≡ number_of (first_failure (listing_tests b.flags w))
+      go (Err r) e = rw (e, listing_refused b w f r e)
+      go (Ok i) e = rw (e, listing-accepted b w f i e)
 
   abbrev needs : Modes
   needs = modes_of (describe w)

@@ -9,14 +9,14 @@ use native.Mathlib.Omega.{arith}
 use lib.ListN.{length, get_or, drop, drop_of_length-le}
 use lib.Seq.{drop-cons}
 use borrow.Author.Tests.{lt-ltb, le-ltb}
-use Rattle.isa.specs.Refusals.{first_failure, or_else}
+use Rattle.isa.specs.Refusals.{first_failure, or_else, missing_beside, number_in}
 use Rattle.isa.specs.Answers.{describe}
 use Rattle.isa.specs.declared.Refusal.{Refusal}
 use Rattle.isa.specs.declared.Refusal.TheVariants.{ListLength, NotCleared}
 use Rattle.storage.specs.Tile.{masked}
 use Rattle.machine.specs.Machine.{Machine, with_za}
 use Rattle.machine.specs.Instructions.{tile_named}
-use Rattle.machine.specs.Execution.{word_tests, word_refusal, machine_tests, left_by, after, outcome_number, outcome_missing}
+use Rattle.machine.specs.Execution.{word_tests, word_refusal, machine_tests, left_by, after}
 use Rattle.machine.specs.Clearing.{clears_row, tile_cleared, cleared_test}
 use Rattle.machine.specs.Lists.{played, most_words, list_test, run_tests, Progress, at_start, onward, next_refusal, ended, before, stop}
 use Rattle.machine.specs.Lists.{end_of, left_at_end, ran_words, ran, run_of, run_left}
@@ -201,8 +201,8 @@ module _ (m : Machine) (ws : List ℕ) where
     answer : r ≡ run_of m ws;
     za_after : za ≡ (run_left m ws).za;
     count : r.count ≡ run_count m ws;
-    number : outcome_number r.outcome ≡ run_number m ws;
-    missing : outcome_missing r.outcome ≡ run_missing m ws;
+    number : number_in r.outcome ≡ run_number m ws;
+    missing : missing_beside r.outcome ≡ run_missing m ws;
   }
 
   pub run_numbers : (r : Ended) (za : List ℕ) → r ≡ run_of m ws → za ≡ (run_left m ws).za → RunZa r za
@@ -210,8 +210,8 @@ module _ (m : Machine) (ws : List ℕ) where
     answer = e;
     za_after = f;
     count = ap (λ (r : Ended). r.count) e;
-    number = ap (λ (r : Ended). outcome_number r.outcome) e;
-    missing = ap (λ (r : Ended). outcome_missing r.outcome) e;
+    number = ap (λ (r : Ended). number_in r.outcome) e;
+    missing = ap (λ (r : Ended). missing_beside r.outcome) e;
   }
 
   run_za : (r : Ended) (m' : Machine) → RunIs r m' → RunZa r m'.za

@@ -7,22 +7,20 @@ use Prim.Native.Nat.{ℕ, ◌≤◌}
 use native.Mathlib.Omega.{arith}
 use lib.ListN.{length}
 use borrow.Author.Tests.{ltb-false, le-ltb, eqb-true, not-false}
-use Rattle.isa.specs.Refusals.{Test, first_failure}
+use Rattle.std.specs.Prelude.{Err, Ok, Result}
+use Rattle.isa.specs.Refusals.{Test, first_failure, refusal_in}
 use Rattle.isa.specs.Table.{all_flags}
 use Rattle.isa.specs.Answers.{describe, listing_tests, decode_tests, decided, decode_of}
 use Rattle.isa.specs.declared.Refusal.{Refusal}
 use Rattle.isa.specs.declared.Instruction.{Instruction}
-use Rattle.isa.specs.declared.Decoded.{Decoded}
-use Rattle.isa.specs.declared.Decoded.TheVariants.{Accepted, Refused as NotDecoded}
 use Rattle.isa.proofs.Refusals.{failed_before, passed_before}
 use Rattle.isa.proofs.Sums.{Fair, fair-++, plain_fair, listing_fair}
 use Rattle.isa.proofs.Answers.{decode_refused, decode_passed, decided-accepted, decided_refused}
 use Rattle.machine.specs.Instructions.{modes_of}
 use Rattle.machine.specs.Machine.{Machine}
-use Rattle.machine.specs.Execution.{bench_tests, mode_tests, word_tests, machine_tests, outcome, outcome_refusal}
+use Rattle.machine.specs.Execution.{bench_tests, mode_tests, word_tests, machine_tests, outcome}
 use Rattle.machine.specs.Claims.{Passes, BenchPasses}
 use Rattle.machine.specs.declared.Bench.{Bench}
-use Rattle.machine.specs.declared.Outcome.TheVariants.{Done, Refused}
 
 -- ---- tests in turn
 abbrev AllPass : List Test → Type 0
@@ -38,15 +36,15 @@ all_pass (t ∷ ts) p = go t.fails refl p (all_pass ts)
     go false e q rest = (e, rest q)
 
 -- ---- answers
-pub outcome_done : (o : Option Refusal) → Done ≡ outcome o → o ≡ none
+pub outcome_done : (o : Option Refusal) → (Ok tt) ≡ outcome o → o ≡ none
 outcome_done none p = refl
 outcome_done (some r) p = let z : ◌≡◌ {A = ℕ} 0 1 = cc in absurd (omega arith)
 
-pub outcome_refused : (o : Option Refusal) (r : Refusal) → Refused r ≡ outcome o → o ≡ some r
+pub outcome_refused : (o : Option Refusal) (r : Refusal) → Err r ≡ outcome o → o ≡ some r
 outcome_refused none r p = let z : ◌≡◌ {A = ℕ} 0 1 = cc in absurd (omega arith)
 outcome_refused (some s) r p = let z : s ≡ r = cc in ap {B = Option Refusal} some z
 
-pub outcome_back : (o : Option Refusal) → outcome_refusal (outcome o) ≡ o
+pub outcome_back : (o : Option Refusal) → refusal_in (outcome o) ≡ o
 outcome_back none = refl
 outcome_back (some r) = refl
 
@@ -76,18 +74,18 @@ module _ (b : Bench) (w : ℕ) (legal-flags : b.flags ≤ all_flags) where
   listing : first_failure (decode_tests b.flags w) ≡ first_failure (listing_tests b.flags w)
   listing = rw (le-ltb all_flags b.flags legal-flags)
 
-  pub listing_refused : (r : Refusal) → decode_of b.flags w ≡ NotDecoded r → first_failure (listing_tests b.flags w) ≡ some r
+  pub listing_refused : (r : Refusal) → decode_of b.flags w ≡ Err r → first_failure (listing_tests b.flags w) ≡ some r
   listing_refused r p = sym listing ∙ decode_refused b.flags w r p
 
-  pub listing-accepted : (i : Instruction) → decode_of b.flags w ≡ Accepted i → first_failure (listing_tests b.flags w) ≡ none
+  pub listing-accepted : (i : Instruction) → decode_of b.flags w ≡ Ok i → first_failure (listing_tests b.flags w) ≡ none
   listing-accepted i p = sym listing ∙ (decode_passed b.flags w i p).0
 
   -- tests 7 to 10, and any that come later
   module _ (later : List Test) where
-    pub word_refused : (r : Refusal) → decode_of b.flags w ≡ NotDecoded r → first_failure (word_tests b w ++ later) ≡ some r
+    pub word_refused : (r : Refusal) → decode_of b.flags w ≡ Err r → first_failure (word_tests b w ++ later) ≡ some r
     word_refused r p = failed_before (listing_tests b.flags w) (mode_tests b (modes_of (describe w)) ++ later) r (listing_refused r p)
 
-    pub word-accepted : (i : Instruction) → decode_of b.flags w ≡ Accepted i
+    pub word-accepted : (i : Instruction) → decode_of b.flags w ≡ Ok i
         → first_failure (word_tests b w ++ later) ≡ first_failure (mode_tests b (modes_of (some i)) ++ later)
     word-accepted i p =
         passed_before (listing_tests b.flags w) (mode_tests b (modes_of (describe w)) ++ later) (listing-accepted i p)
@@ -95,14 +93,14 @@ module _ (b : Bench) (w : ℕ) (legal-flags : b.flags ≤ all_flags) where
 
 -- ---- a word, by what these tests admit it as
 module _ (b : Bench) (w : ℕ) (later : List Test) where
-  abbrev admitted : Decoded
+  abbrev admitted : Result Instruction Refusal
   admitted = decided (first_failure (word_tests b w ++ later)) (describe w)
 
-  pub admit_accepted : (i : Instruction) → Accepted i ≡ admitted → (first_failure (word_tests b w ++ later) ≡ none) × (describe w ≡ some i)
+  pub admit_accepted : (i : Instruction) → Ok i ≡ admitted → (first_failure (word_tests b w ++ later) ≡ none) × (describe w ≡ some i)
   admit_accepted i p = decided-accepted (first_failure (word_tests b w ++ later)) (describe w) i (sym p)
 
   unlisted_fails : describe w ≡ none → first_failure (word_tests b w ++ later) ≡ none → ⊥
   unlisted_fails d p = let q = rw d at p in let z : ◌≡◌ {A = ℕ} 0 1 = cc in omega arith
 
-  pub admit_refused : (r : Refusal) → NotDecoded r ≡ admitted → first_failure (word_tests b w ++ later) ≡ some r
+  pub admit_refused : (r : Refusal) → Err r ≡ admitted → first_failure (word_tests b w ++ later) ≡ some r
   admit_refused r p = decided_refused (first_failure (word_tests b w ++ later)) (describe w) r unlisted_fails (sym p)

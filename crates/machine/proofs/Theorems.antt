@@ -10,11 +10,10 @@ use native.Mathlib.Omega.{arith}
 use lib.Dec.{ltb}
 use lib.ListN.{length, get_or, take}
 use borrow.Author.Tests.{ltb-true, ltb-false}
-use Rattle.isa.specs.Refusals.{first_failure, or_else}
-use Rattle.isa.specs.Answers.{describe, decode_of, decoded_number, decode_number}
+use Rattle.std.specs.Prelude.{Err, Ok, Result}
+use Rattle.isa.specs.Refusals.{first_failure, or_else, number_in}
+use Rattle.isa.specs.Answers.{describe, decode_of, decode_number}
 use Rattle.isa.specs.Claims.{HandsBack}
-use Rattle.isa.specs.declared.Decoded.{Decoded}
-use Rattle.isa.specs.declared.Decoded.TheVariants.{Accepted, Refused as NotDecoded}
 use Rattle.isa.specs.declared.Instruction.{Instruction}
 use Rattle.isa.specs.declared.Instruction.TheVariants.{Predicated, Quarter, Zero}
 use Rattle.isa.specs.declared.Refusal.{Refusal}
@@ -28,7 +27,7 @@ use Rattle.isa.proofs.Refusals.{failure-++, number_positive}
 use Rattle.machine.specs.declared.Ended.{Ended}
 use Rattle.machine.specs.Machine.{Machine}
 use Rattle.machine.specs.Instructions.{is_outer, modes_of, has_opposite}
-use Rattle.machine.specs.Execution.{machine_tests, word_tests, word_refusal, refusal_of, none?, effect, unless, after, outcome_number}
+use Rattle.machine.specs.Execution.{machine_tests, word_tests, word_refusal, refusal_of, none?, effect, unless, after}
 use Rattle.machine.specs.Lists.{played, most_words, list_test, run_tests, at_start, before, stop, ran_words, ran, run_of, run_left}
 use Rattle.machine.specs.Exchange.{flip_s, exchanged}
 use Rattle.machine.specs.Claims.{execute_number, execute_missing, Keeps, Clears, BenchPasses, FirstFiveOn, Executes, NeedsModes, run_number, run_count, Ends, Runs}
@@ -116,9 +115,9 @@ za-listed (Zero mask) = refl
 decoded_za : (flags w : ℕ) → decode_number flags w ≡ 0 → (modes_of (describe w)).za ≡ true
 decoded_za flags w h = go (decode_of flags w) refl h
   where
-    go : (d : Decoded) → decode_of flags w ≡ d → decoded_number d ≡ 0 → (modes_of (describe w)).za ≡ true
-    go (Accepted i) e n = rw (decode_passed flags w i e).1 (za-listed i)
-    go (NotDecoded r) e n = absurd (omega (arith, number_positive r))
+    go : (d : Result Instruction Refusal) → decode_of flags w ≡ d → number_in d ≡ 0 → (modes_of (describe w)).za ≡ true
+    go (Ok i) e n = rw (decode_passed flags w i e).1 (za-listed i)
+    go (Err r) e n = absurd (omega (arith, number_positive r))
 
 -- so the numbers 9, 10 and 0 in its own words
 pub needs_modes : (m : Machine) (w : ℕ) → NeedsModes m w
@@ -203,7 +202,7 @@ module _ (m : Machine) (ws : List ℕ) where
   run_passes : BenchPasses m → length ws ≤ most_words → Ends m ws (run_count m ws) (run_number m ws) (run_left m ws)
   run_passes h n =
       let (r, a) = run_begun m ws (bench_passed m.bench (length m.z) (length m.p) (length m.za) h) n in
-      subst (λ (r : Ended). Ends m ws r.count (outcome_number r.outcome) (run_left m ws)) r
+      subst (λ (r : Ended). Ends m ws r.count (number_in r.outcome) (run_left m ws)) r
       (subst (Ends m ws (length (before (at_start m) ws)) (number_of (stop (at_start m) ws))) a (run_ends m ws h))
 
   run_refused : 0 < run_number m ws → run_number m ws ≤ 6 → (run_count m ws ≡ 0) × (run_left m ws ≡ m)
@@ -213,7 +212,7 @@ module _ (m : Machine) (ws : List ℕ) where
       go (some r) e = let (c, a) = run_not_begun m ws r e in (sym (ap (λ (r : Ended). r.count) c), sym a)
       go none e =
           let (c, a) = run_by m ws none e in
-          let n : number_of (stop (at_start m) ws) ≡ run_number m ws = ap (λ (r : Ended). outcome_number r.outcome) c in
+          let n : number_of (stop (at_start m) ws) ≡ run_number m ws = ap (λ (r : Ended). number_in r.outcome) c in
           let f = leaves_late (leaves ws (at_start m)) (omega arith) in
           absurd (omega arith)
 

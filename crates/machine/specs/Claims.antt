@@ -2,6 +2,7 @@
 -- input.
 use Rattle.std.specs.Prelude.{◌≡◌, true, false, ◌↔◌, List, [], ◌∷◌, ℕ, ◌/◌, ◌≤◌, ◌<◌, length, get_or, take}
 use Rattle.std.proofs.Math.Option.{Option}
+use Rattle.isa.specs.Refusals.{missing_beside, number_in}
 use Rattle.isa.specs.Table.{all_flags}
 use Rattle.isa.specs.Answers.{describe, decode_number}
 use Rattle.isa.specs.Claims.{HandsBack}
@@ -12,22 +13,22 @@ use Rattle.storage.specs.Tile.{in_tile, masked}
 use Rattle.machine.specs.declared.Bench.{Bench}
 use Rattle.machine.specs.Machine.{Machine}
 use Rattle.machine.specs.Instructions.{is_outer, modes_of, names_tile}
-use Rattle.machine.specs.Execution.{refusal_of, effect, after, outcome, outcome_number, outcome_missing}
+use Rattle.machine.specs.Execution.{refusal_of, effect, after, outcome}
 use Rattle.machine.specs.Clearing.{cleared_by}
 use Rattle.machine.specs.Lists.{played, most_words, ran, run_of, run_left}
 
 -- ---- the numbers, and the sums beside them
 abbrev pub execute_number : Machine → ℕ → ℕ
-execute_number m w = outcome_number (outcome (refusal_of m w))
+execute_number m w = number_in (outcome (refusal_of m w))
 
 abbrev pub execute_missing : Machine → ℕ → ℕ
-execute_missing m w = outcome_missing (outcome (refusal_of m w))
+execute_missing m w = missing_beside (outcome (refusal_of m w))
 
 abbrev pub run_number : Machine → List ℕ → ℕ
-run_number m ws = outcome_number (run_of m ws).outcome
+run_number m ws = number_in (run_of m ws).outcome
 
 abbrev pub run_missing : Machine → List ℕ → ℕ
-run_missing m ws = outcome_missing (run_of m ws).outcome
+run_missing m ws = missing_beside (run_of m ws).outcome
 
 abbrev pub run_count : Machine → List ℕ → ℕ
 run_count m ws = (run_of m ws).count

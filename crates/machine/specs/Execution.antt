@@ -1,5 +1,5 @@
 -- One word: which refusal it gets, and what it leaves (document 01, "Execution" and "Refusal numbers", and document 02, C-15).
-use Rattle.std.specs.Prelude.{Bool, true, false, not, ◌&&◌, List, [], ◌∷◌, ◌++◌, ℕ, eqb, ℤ, length}
+use Rattle.std.specs.Prelude.{Bool, true, false, not, ◌&&◌, List, [], ◌∷◌, ◌++◌, ℕ, eqb, ℤ, length, Err, Ok, Result}
 use Rattle.std.proofs.Math.Option.{Option, none, some}
 use Rattle.isa.specs.Refusals.{refusal_number, refusal_missing, Test, first_failure}
 use Rattle.isa.specs.Answers.{describe, flags_test, listing_tests}
@@ -14,8 +14,6 @@ use Rattle.outer.specs.Products.{sums}
 use Rattle.machine.specs.Instructions.{outer_of, mask_of, modes_of}
 use Rattle.machine.specs.declared.Bench.{Bench}
 use Rattle.machine.specs.declared.Modes.{Modes}
-use Rattle.machine.specs.declared.Outcome.{Outcome}
-use Rattle.machine.specs.declared.Outcome.TheVariants.{Done, Refused}
 
 -- tests 1 to 5, of the bench and the lengths of Z, P and ZA
 abbrev pub bench_tests : Bench → ℕ → ℕ → ℕ → List Test
@@ -103,16 +101,16 @@ abbrev pub word_left : Machine → ℕ → Machine
 word_left m w = left_by m w (word_refusal m w)
 
 -- the answer, its refusal, and the paper's number and sum
-abbrev pub outcome : Option Refusal → Outcome
-outcome none = Done
-outcome (some r) = Refused r
+abbrev pub outcome : Option Refusal → Result Unit Refusal
+outcome none = (Ok tt)
+outcome (some r) = Err r
 
-abbrev pub outcome_refusal : Outcome → Option Refusal
-outcome_refusal Done = none
-outcome_refusal (Refused r) = some r
+abbrev pub outcome_refusal : Result Unit Refusal → Option Refusal
+outcome_refusal (Ok tt) = none
+outcome_refusal (Err r) = some r
 
-abbrev pub outcome_number : Outcome → ℕ
+abbrev pub outcome_number : Result Unit Refusal → ℕ
 outcome_number a = refusal_number (outcome_refusal a)
 
-abbrev pub outcome_missing : Outcome → ℕ
+abbrev pub outcome_missing : Result Unit Refusal → ℕ
 outcome_missing a = refusal_missing (outcome_refusal a)

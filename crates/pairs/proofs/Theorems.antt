@@ -9,10 +9,10 @@ use Prim.Native.Nat.{ℕ, ◌%◌, ◌<◌}
 use native.Mathlib.Omega.{arith}
 use lib.Dec.{eqb, lit<}
 use borrow.Author.Tests.{eqb-true, eqb-false, ne_eqb, not-true}
-use Rattle.isa.specs.Answers.{describe, decode_of, decoded_number, decode_number}
+use Rattle.std.specs.Prelude.{Err, Ok, Result}
+use Rattle.isa.specs.Refusals.{number_in}
+use Rattle.isa.specs.Answers.{describe, decode_of, decode_number}
 use Rattle.isa.specs.declared.Refusal.{Refusal}
-use Rattle.isa.specs.declared.Decoded.{Decoded}
-use Rattle.isa.specs.declared.Decoded.TheVariants.{Accepted, Refused}
 use Rattle.isa.specs.declared.Instruction.{Instruction}
 use Rattle.isa.specs.declared.Instruction.TheVariants.{Predicated, Quarter, Zero}
 use Rattle.isa.proofs.Answers.{decode_passed}
@@ -24,7 +24,7 @@ use Rattle.storage.proofs.Laws.{Good}
 use Rattle.storage.proofs.Sizes.{Length, legal-length, za_good}
 use Rattle.machine.specs.Machine.{Machine, with_za}
 use Rattle.machine.specs.Instructions.{is_outer, TileName, tile_named, is_tile}
-use Rattle.machine.specs.Execution.{refusal_of, none?, accepted, outcome, outcome_number}
+use Rattle.machine.specs.Execution.{refusal_of, none?, accepted, outcome}
 use Rattle.machine.specs.Claims.{BenchPasses}
 use Rattle.machine.specs.Demand3.{Apart}
 use Rattle.machine.proofs.Acts.{Width, narrow, wide, add_comm}
@@ -169,17 +169,17 @@ decoded_tile flags w n h = go (decode_of flags w) refl h
     outer (Quarter op tile first second) e = refl
     outer (Zero mask) e = absurd (not_none e)
 
-    go : (d : Decoded) → decode_of flags w ≡ d → tile_decoded d ≡ some n
+    go : (d : Result Instruction Refusal) → decode_of flags w ≡ d → tile_decoded d ≡ some n
         → (decode_number flags w ≡ 0) × (is_outer (describe w) ≡ true) × (tile_named (describe w) ≡ some n)
-    go (Accepted i) e t = let p = (decode_passed flags w i e).1 in (ap decoded_number e, ap is_outer p ∙ outer i t, ap tile_named p ∙ t)
-    go (Refused r) e t = absurd (not_none t)
+    go (Ok i) e t = let p = (decode_passed flags w i e).1 in (ap number_in e, ap is_outer p ∙ outer i t, ap tile_named p ∙ t)
+    go (Err r) e t = absurd (not_none t)
 
 tile_decoded_lem : (flags w : ℕ) → decode_number flags w ≡ 0 → tile_decoded (decode_of flags w) ≡ tile_named (describe w)
 tile_decoded_lem flags w h = go (decode_of flags w) refl h
   where
-    go : (d : Decoded) → decode_of flags w ≡ d → decoded_number d ≡ 0 → tile_decoded d ≡ tile_named (describe w)
-    go (Accepted i) e z = sym (ap tile_named (decode_passed flags w i e).1)
-    go (Refused r) e z = absurd (omega (arith, number_positive r))
+    go : (d : Result Instruction Refusal) → decode_of flags w ≡ d → number_in d ≡ 0 → tile_decoded d ≡ tile_named (describe w)
+    go (Ok i) e z = sym (ap tile_named (decode_passed flags w i e).1)
+    go (Err r) e z = absurd (omega (arith, number_positive r))
 
 named_width : (d : Option Instruction) (n : TileName) → tile_named d ≡ some n → Width n.E
 named_width none n e = absurd (not_none e)
@@ -188,11 +188,11 @@ named_width (some (Quarter op tile first second)) n e = subst (λ (k : TileName)
 named_width (some (Zero mask)) n e = absurd (not_none e)
 
 -- an accepted word has the number 0, and the other way round
-accepted-zero : (o : Option Refusal) → none? o ≡ true → outcome_number (outcome o) ≡ 0
+accepted-zero : (o : Option Refusal) → none? o ≡ true → number_in (outcome o) ≡ 0
 accepted-zero none h = refl
 accepted-zero (some r) h = absurd (false≢true h)
 
-zero-accepted : (o : Option Refusal) → outcome_number (outcome o) ≡ 0 → none? o ≡ true
+zero-accepted : (o : Option Refusal) → number_in (outcome o) ≡ 0 → none? o ≡ true
 zero-accepted none h = refl
 zero-accepted (some r) h = absurd (omega (arith, number_positive r))
 

@@ -1,10 +1,8 @@
 -- Two outer products, in this order and in the other (document 02, C-23): whether the order matters to any contents of Z, P and
 -- ZA, and contents that it matters to.
-use Rattle.std.specs.Prelude.{Bool, true, false, not, cond, ◌&&◌, ◌||◌, [], ◌∷◌, ℕ, zero, suc, eqb, replicate}
+use Rattle.std.specs.Prelude.{Bool, true, false, not, cond, ◌&&◌, ◌||◌, [], ◌∷◌, ℕ, zero, suc, eqb, replicate, Err, Ok, Result}
 use Rattle.std.proofs.Math.Option.{Option, none, some}
 use Rattle.isa.specs.Answers.{describe, decode_of}
-use Rattle.isa.specs.declared.Decoded.{Decoded}
-use Rattle.isa.specs.declared.Decoded.TheVariants.{Accepted, Refused}
 use Rattle.storage.specs.Sizes.{z_size, p_size, za_size}
 use Rattle.storage.specs.Tile.{in_tile}
 use Rattle.outer.specs.declared.OuterProduct.{OuterProduct}
@@ -39,9 +37,9 @@ clash (some n) none = false
 clash (some n) (some k) = not (eqb n.E k.E) && share_rows n k
 
 -- the tile that a decoded word names; a refused one names none
-abbrev pub tile_decoded : Decoded → Option TileName
-tile_decoded (Accepted i) = tile_named (some i)
-tile_decoded (Refused r) = none
+abbrev pub tile_decoded : Result Instruction Refusal → Option TileName
+tile_decoded (Ok i) = tile_named (some i)
+tile_decoded (Err r) = none
 
 unfoldable pub order_matters : ℕ → ℕ → ℕ → Bool
 order_matters flags a b = clash (tile_decoded (decode_of flags a)) (tile_decoded (decode_of flags b))

@@ -8,50 +8,45 @@ use native.Mathlib.Omega.{arith}
 use lib.Dec.{eqb, ltb}
 use lib.ListN.{length, take}
 use borrow.Author.Tests.{lt-ltb, le-ltb, ltb-true, ltb-false}
+use Rattle.std.specs.Prelude.{Err, Ok, Result}
+use Rattle.isa.specs.Refusals.{number_in, refusal_in, value_in}
 use Rattle.isa.specs.Table.{Feature, SME, I16I64, MOP4, SME2, on, all_flags}
 use Rattle.isa.specs.Claims.{FeaturesOn}
-use Rattle.isa.specs.Answers.{describe, missing, decided, decoded_refusal, decode_of, decode_refusal, encode_of}
+use Rattle.isa.specs.Answers.{describe, missing, decided, decode_of, decode_refusal, encode_of}
 use Rattle.isa.specs.declared.Instruction.{Instruction}
 use Rattle.isa.specs.declared.Refusal.{Refusal}
 use Rattle.isa.specs.declared.Refusal.TheVariants.{Flags, FeatureOff, NotText}
-use Rattle.isa.specs.declared.Decoded.{Decoded}
-use Rattle.isa.specs.declared.Decoded.TheVariants.{Accepted, Refused as NotDecoded}
-use Rattle.isa.specs.declared.Encoded.{Encoded}
-use Rattle.isa.specs.declared.Encoded.TheVariants.{Word as Encoding, Refused as NotEncoded}
 use Rattle.isa.proofs.Answers.{encoded, decode_passed}
 use Rattle.isa.proofs.Lines.{word-described}
 use Rattle.isa.proofs.Theorems.{decodes, described_in_range}
 use Rattle.text.specs.Spelling.{Text, spelling}
-use Rattle.text.specs.Printing.{text_of, print_of, room_after, printed_number, printed_length}
+use Rattle.text.specs.Printing.{text_of, print_of, room_after}
 use Rattle.text.specs.Claims.{Holds}
-use Rattle.text.specs.declared.Printed.TheVariants.{Length, Refused as NotPrinted}
 use Rattle.text.proofs.Rooms.{print_accepted, print_refused}
 use Rattle.text.proofs.Lengths.{line-between}
 use Rattle.text.proofs.Theorems.{prints}
-use Rattle.reader.specs.declared.Reading.{Reading}
-use Rattle.reader.specs.declared.Reading.TheVariants.{Word, Refused}
 use Rattle.reader.specs.Answers.{same_text, has_text, word_with, answered, read_of}
 use Rattle.reader.specs.Guess.{guess_of, word_unless, verdict}
 use Rattle.reader.proofs.Words.{text_had, guessed, with_some, with_none}
 
 -- ---- the ways that read goes
-pub read_flags : (flags : ℕ) (t : Text) → all_flags < flags → read_of flags t ≡ Refused Flags
+pub read_flags : (flags : ℕ) (t : Text) → all_flags < flags → read_of flags t ≡ Err Flags
 unfolding read_of
 read_flags flags t h = rw (lt-ltb all_flags flags h)
 
-pub read_none : (flags : ℕ) (t : Text) → flags ≤ all_flags → word_with t ≡ none → read_of flags t ≡ Refused NotText
+pub read_none : (flags : ℕ) (t : Text) → flags ≤ all_flags → word_with t ≡ none → read_of flags t ≡ Err NotText
 unfolding read_of
 read_none flags t h p = rw (le-ltb all_flags flags h, p)
 
 -- what test 8 leaves of a word that has the line
-abbrev pub allowed : ℕ → ℕ → Reading
-allowed lacks w = cond (eqb lacks 0) (Word w) (Refused (FeatureOff lacks))
+abbrev pub allowed : ℕ → ℕ → Result ℕ Refusal
+allowed lacks w = cond (eqb lacks 0) (Ok w) (Err (FeatureOff lacks))
 
 pub read_some : (flags w : ℕ) (t : Text) → flags ≤ all_flags → word_with t ≡ some w → read_of flags t ≡ allowed (missing flags w) w
 unfolding read_of
 read_some flags w t h p = rw (le-ltb all_flags flags h, p) (go (eqb (missing flags w) 0) (FeatureOff (missing flags w)))
   where
-    go : (b : Bool) (r : Refusal) → answered (cond (not b) (some r) none) (some w) ≡ cond b (Word w) (Refused r)
+    go : (b : Bool) (r : Refusal) → answered (cond (not b) (some r) none) (some w) ≡ cond b (Ok w) (Err r)
     go true r = refl
     go false r = refl
 
@@ -60,16 +55,16 @@ allowed_is : (flags w : ℕ) (i : Instruction) → flags ≤ all_flags → descr
 unfolding decode_of
 allowed_is flags w i h d = rw (le-ltb all_flags flags h, d) (go (eqb (missing flags w) 0) (FeatureOff (missing flags w)))
   where
-    go : (b : Bool) (r : Refusal) → word_unless (decoded_refusal (decided (cond (not b) (some r) none) (some i))) w ≡ cond b (Word w) (Refused r)
+    go : (b : Bool) (r : Refusal) → word_unless (refusal_in (decided (cond (not b) (some r) none) (some i))) w ≡ cond b (Ok w) (Err r)
     go true r = refl
     go false r = refl
 
 -- ---- no other word than the guessed one has the line
-pub guess_refused : (flags : ℕ) (t : Text) (r : Refusal) → flags ≤ all_flags → encode_of (guess_of t) ≡ NotEncoded r → Refused NotText ≡ read_of flags t
+pub guess_refused : (flags : ℕ) (t : Text) (r : Refusal) → flags ≤ all_flags → encode_of (guess_of t) ≡ Err r → Err NotText ≡ read_of flags t
 guess_refused flags t r h e =
     sym (read_none flags t h (with_none t (λ v k p. let g = guessed v t k p in let z : ◌≡◌ {A = ℕ} 0 1 = cc in omega arith)))
 
-pub guess_word : (flags w : ℕ) (t : Text) → flags ≤ all_flags → encode_of (guess_of t) ≡ Encoding w
+pub guess_word : (flags w : ℕ) (t : Text) → flags ≤ all_flags → encode_of (guess_of t) ≡ Ok w
     → verdict w (has_text w t) (decode_refusal flags w) ≡ read_of flags t
 guess_word flags w t h e = go (has_text w t) refl
   where
@@ -90,21 +85,21 @@ guess_word flags w t h e = go (has_text w t) refl
         omega arith)))
 
 -- so read's answer can be computed, without the search
-abbrev by_encoded : ℕ → Text → Encoded → Reading
-by_encoded flags t (Encoding w) = verdict w (has_text w t) (decode_refusal flags w)
-by_encoded flags t (NotEncoded r) = Refused NotText
+abbrev by_encoded : ℕ → Text → Result ℕ Refusal → Result ℕ Refusal
+by_encoded flags t (Ok w) = verdict w (has_text w t) (decode_refusal flags w)
+by_encoded flags t (Err r) = Err NotText
 
-abbrev pub computed : ℕ → Text → Reading
-computed flags t = cond (ltb all_flags flags) (Refused Flags) (by_encoded flags t (encode_of (guess_of t)))
+abbrev pub computed : ℕ → Text → Result ℕ Refusal
+computed flags t = cond (ltb all_flags flags) (Err Flags) (by_encoded flags t (encode_of (guess_of t)))
 
 pub read_computed : (flags : ℕ) (t : Text) → read_of flags t ≡ computed flags t
 read_computed flags t = by_flags (ltb all_flags flags) refl
   where
-    by_word : flags ≤ all_flags → (e : Encoded) → encode_of (guess_of t) ≡ e → read_of flags t ≡ by_encoded flags t e
-    by_word h (Encoding w) p = sym (guess_word flags w t h p)
-    by_word h (NotEncoded r) p = sym (guess_refused flags t r h p)
+    by_word : flags ≤ all_flags → (e : Result ℕ Refusal) → encode_of (guess_of t) ≡ e → read_of flags t ≡ by_encoded flags t e
+    by_word h (Ok w) p = sym (guess_word flags w t h p)
+    by_word h (Err r) p = sym (guess_refused flags t r h p)
 
-    by_flags : (b : Bool) → ltb all_flags flags ≡ b → read_of flags t ≡ cond b (Refused Flags) (by_encoded flags t (encode_of (guess_of t)))
+    by_flags : (b : Bool) → ltb all_flags flags ≡ b → read_of flags t ≡ cond b (Err Flags) (by_encoded flags t (encode_of (guess_of t)))
     by_flags true p = read_flags flags t (ltb-true all_flags flags p)
     by_flags false p = by_word (ltb-false all_flags flags p) (encode_of (guess_of t)) refl
 
@@ -118,30 +113,30 @@ every-on SME2 = refl
 all_on : (w : ℕ) → FeaturesOn all_flags w
 all_on w e m q f k = every-on f
 
-pub decodes_all : (w : ℕ) (i : Instruction) → describe w ≡ some i → decode_of all_flags w ≡ Accepted i
+pub decodes_all : (w : ℕ) (i : Instruction) → describe w ≡ some i → decode_of all_flags w ≡ Ok i
 unfolding decode_of
 decodes_all w i p = rw (p, (decodes all_flags w).missing_none.1 (all_on w))
 
 -- a text that was printed is the word's
-module _ (w n : ℕ) (room : List ℕ) (e : print_of all_flags w (length room) ≡ Length n) where
+module _ (w n : ℕ) (room : List ℕ) (e : print_of all_flags w (length room) ≡ Ok n) where
   held : Holds (text_of w) n room (room_after all_flags w room)
-  held = rw (ap printed_length e) at ((prints all_flags w room).printed (ap printed_number e))
+  held = rw (ap value_in e) at ((prints all_flags w room).printed (ap number_in e))
 
   pub printed_fits : n ≤ length (room_after all_flags w room)
-  printed_fits = let (d, l) = (prints all_flags w room).accepts.0 (ap printed_number e) in let h = held in omega arith
+  printed_fits = let (d, l) = (prints all_flags w room).accepts.0 (ap number_in e) in let h = held in omega arith
 
   pub printed-same : (t : Text) → same_text (take n (room_after all_flags w room)) t ≡ has_text w t
   printed-same t = go (decode_of all_flags w) refl
     where
-      go : (d : Decoded) → decode_of all_flags w ≡ d → same_text (take n (room_after all_flags w room)) t ≡ has_text w t
-      go (Accepted i) p = rw (held.text, (decode_passed all_flags w i p).1)
-      go (NotDecoded r) p =
+      go : (d : Result Instruction Refusal) → decode_of all_flags w ≡ d → same_text (take n (room_after all_flags w room)) t ≡ has_text w t
+      go (Ok i) p = rw (held.text, (decode_passed all_flags w i p).1)
+      go (Err r) p =
           let q = print_refused all_flags w (length room) r p in
           let z : ◌≡◌ {A = ℕ} 0 1 = cc in
           absurd (omega arith)
 
 -- a word that was refused has no text
-pub refused_unlisted : (w n : ℕ) (r : Refusal) (t : Text) → 47 ≤ n → print_of all_flags w n ≡ NotPrinted r → false ≡ has_text w t
+pub refused_unlisted : (w n : ℕ) (r : Refusal) (t : Text) → 47 ≤ n → print_of all_flags w n ≡ Err r → false ≡ has_text w t
 refused_unlisted w n r t l e = go (describe w) refl
   where
     go : (o : Option Instruction) → describe w ≡ o → false ≡ has_text w t
@@ -150,6 +145,6 @@ refused_unlisted w n r t l e = go (describe w) refl
         let q = print_accepted all_flags w n i (decodes_all w i p) in
         let b = line-between i (described_in_range w i p) in
         let k = le-ltb n (length (spelling i)) (omega arith) in
-        let y : print_of all_flags w n ≡ Length (length (spelling i)) = q ∙ rw k in
+        let y : print_of all_flags w n ≡ Ok (length (spelling i)) = q ∙ rw k in
         let z : ◌≡◌ {A = ℕ} 0 1 = cc in
         absurd (omega arith)

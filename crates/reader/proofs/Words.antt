@@ -6,9 +6,9 @@ use Prim.Native.Nat.{ℕ, zero, suc, ◌≤◌, ◌<◌, ◌^◌}
 use native.Mathlib.Omega.{arith}
 use lib.Dec.{eqb}
 use borrow.Author.Tests.{eqb-true, eqb-false}
+use Rattle.std.specs.Prelude.{Ok}
 use Rattle.isa.specs.Answers.{describe, absent, encode_of}
 use Rattle.isa.specs.declared.Instruction.{Instruction}
-use Rattle.isa.specs.declared.Encoded.TheVariants.{Word}
 use Rattle.isa.proofs.Answers.{encode_in_range}
 use Rattle.isa.proofs.Theorems.{described_is}
 use Rattle.text.specs.Spelling.{Text, spelling}
@@ -34,13 +34,13 @@ text_had w t h = go (describe w) refl h
     go (some i) p q = ((i, p), same_eq (text_of w) t q)
 
 -- a line leads to no other word than its own
-pub guessed : (w : ℕ) (t : Text) → w < 2 ^ 32 → has_text w t ≡ true → encode_of (guess_of t) ≡ Word w
+pub guessed : (w : ℕ) (t : Text) → w < 2 ^ 32 → has_text w t ≡ true → encode_of (guess_of t) ≡ Ok w
 guessed w t h s =
     let (d, e) = text_had w t s in
     let i = d.0 in
     let (r, k) = described_is w i h d.1 in
     let g : guess_of t ≡ i = ap guess_of (sym e ∙ described_text w i d.1) ∙ guess_back i r in
-    rw g (encode_in_range i r ∙ ap Word k)
+    rw g (encode_in_range i r ∙ ap Ok k)
 
 pub one_word : (v w : ℕ) (t : Text) → v < 2 ^ 32 → w < 2 ^ 32 → has_text v t ≡ true → has_text w t ≡ true → v ≡ w
 one_word v w t h k p q = let a = guessed v t h p in let b = guessed w t k q in cc

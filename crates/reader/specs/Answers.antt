@@ -1,6 +1,6 @@
 -- What read answers (document 02, C-11 and C-15), by the spelling of text/specs alone: the word that has a line is looked for
 -- among all.
-use Rattle.std.specs.Prelude.{Bool, true, false, not, cond, ◌&&◌, List, [], ◌∷◌, ℕ, zero, suc, ◌^◌, eqb}
+use Rattle.std.specs.Prelude.{Bool, true, false, not, cond, ◌&&◌, List, [], ◌∷◌, ℕ, zero, suc, ◌^◌, eqb, Err, Ok, Result}
 use Rattle.std.proofs.Math.Option.{Option, none, some}
 use Rattle.isa.specs.Refusals.{refusal_number, refusal_missing, Test, first_failure}
 use Rattle.isa.specs.Answers.{describe, missing, absent, flags_test}
@@ -8,8 +8,6 @@ use Rattle.isa.specs.declared.Refusal.{Refusal}
 use Rattle.isa.specs.declared.Refusal.TheVariants.{FeatureOff, NotText}
 use Rattle.text.specs.Spelling.{Text}
 use Rattle.text.specs.Printing.{text_of}
-use Rattle.reader.specs.declared.Reading.{Reading}
-use Rattle.reader.specs.declared.Reading.TheVariants.{Word, Refused}
 
 -- ---- the word of a line
 abbrev pub same_text : Text → Text → Bool
@@ -49,28 +47,28 @@ read_tests flags o =
     ∷ []
 
 -- a refusal, or the word; the last clause is there for form, as a line without a word fails test 13
-abbrev pub answered : Option Refusal → Option ℕ → Reading
-answered (some r) o = Refused r
-answered none (some w) = Word w
-answered none none = Refused NotText
+abbrev pub answered : Option Refusal → Option ℕ → Result ℕ Refusal
+answered (some r) o = Err r
+answered none (some w) = Ok w
+answered none none = Err NotText
 
-unfoldable pub read_of : ℕ → Text → Reading
+unfoldable pub read_of : ℕ → Text → Result ℕ Refusal
 read_of flags t = answered (first_failure (read_tests flags (word_with t))) (word_with t)
 
 -- the refusal of an answer, and the paper's number, sum and value
-abbrev pub reading_refusal : Reading → Option Refusal
-reading_refusal (Word w) = none
-reading_refusal (Refused r) = some r
+abbrev pub reading_refusal : Result ℕ Refusal → Option Refusal
+reading_refusal (Ok w) = none
+reading_refusal (Err r) = some r
 
-abbrev pub reading_number : Reading → ℕ
+abbrev pub reading_number : Result ℕ Refusal → ℕ
 reading_number a = refusal_number (reading_refusal a)
 
-abbrev pub reading_missing : Reading → ℕ
+abbrev pub reading_missing : Result ℕ Refusal → ℕ
 reading_missing a = refusal_missing (reading_refusal a)
 
-abbrev pub reading_word : Reading → ℕ
-reading_word (Word w) = w
-reading_word (Refused r) = 0
+abbrev pub reading_word : Result ℕ Refusal → ℕ
+reading_word (Ok w) = w
+reading_word (Err r) = 0
 
 abbrev pub read_number : ℕ → Text → ℕ
 read_number flags t = reading_number (read_of flags t)

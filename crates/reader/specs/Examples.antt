@@ -1,10 +1,9 @@
 -- Reads as rows of one table: lines of every family, the order of the tests, and near misses of each kind.
 -- proofs/Examples.antt shows that each comes out so.
-use Rattle.std.specs.Prelude.{List, [], ◌∷◌, ℕ}
+use Rattle.std.specs.Prelude.{List, [], ◌∷◌, ℕ, Result}
+use Rattle.isa.specs.Refusals.{missing_beside, number_in, value_in}
 use Rattle.text.specs.Ascii.{ascii}
 use Rattle.text.specs.Spelling.{Text}
-use Rattle.reader.specs.declared.Reading.{Reading}
-use Rattle.reader.specs.Answers.{reading_number, reading_missing, reading_word}
 
 -- with these flags: the number (0: read), the sum that it hands back, and the word
 pub record Example : Type 0 where
@@ -80,7 +79,7 @@ examples =
     ∷ []
 
 -- an example with what a reader answers in place of what it should
-abbrev pub outcome : (ℕ → Text → Reading) → Example → Example
+abbrev pub outcome : (ℕ → Text → Result ℕ Refusal) → Example → Example
 outcome f e =
     let answer = f e.flags e.line in
-    record { flags = e.flags; line = e.line; number = reading_number answer; missing = reading_missing answer; word = reading_word answer }
+    record { flags = e.flags; line = e.line; number = number_in answer; missing = missing_beside answer; word = value_in answer }

@@ -1,6 +1,6 @@
 -- The instruction that a line can only spell, if it spells any, and what is answered of its word. Private contracts alone
 -- cite this page.
-use Rattle.std.specs.Prelude.{Bool, false, not, cond, ◌&&◌, ◌||◌, [], ◌∷◌, ℕ, ◌+◌, ◌-◌, ◌*◌, ◌%◌, ◌^◌, eqb, ltb, length, get_or}
+use Rattle.std.specs.Prelude.{Bool, false, not, cond, ◌&&◌, ◌||◌, [], ◌∷◌, ℕ, ◌+◌, ◌-◌, ◌*◌, ◌%◌, ◌^◌, eqb, ltb, length, get_or, Err, Ok, Result}
 use Rattle.std.proofs.Math.Option.{Option, none, some}
 use Rattle.isa.specs.Table.{source}
 use Rattle.isa.specs.declared.Operation.{Operation}
@@ -10,8 +10,6 @@ use Rattle.isa.specs.declared.Instruction.TheVariants.{Predicated, Quarter, Zero
 use Rattle.isa.specs.declared.Refusal.{Refusal}
 use Rattle.isa.specs.declared.Refusal.TheVariants.{NotText}
 use Rattle.text.specs.Spelling.{Text}
-use Rattle.reader.specs.declared.Reading.{Reading}
-use Rattle.reader.specs.declared.Reading.TheVariants.{Word, Refused}
 use Rattle.reader.specs.declared.Scan.{Scan}
 
 -- ---- what stands in an outer product's line, byte by byte
@@ -139,9 +137,9 @@ unfoldable pub guess_of : Text → Instruction
 guess_of t = cond (eqb (byte_at t 0) 122) (Zero (zero_mask t)) (outer_guess t (scanned fresh t))
 
 -- ---- what is answered of a word, by whether it has the line, and by decode's refusal
-abbrev pub word_unless : Option Refusal → ℕ → Reading
-word_unless none w = Word w
-word_unless (some r) w = Refused r
+abbrev pub word_unless : Option Refusal → ℕ → Result ℕ Refusal
+word_unless none w = Ok w
+word_unless (some r) w = Err r
 
-abbrev pub verdict : ℕ → Bool → Option Refusal → Reading
-verdict w spelt o = cond spelt (word_unless o w) (Refused NotText)
+abbrev pub verdict : ℕ → Bool → Option Refusal → Result ℕ Refusal
+verdict w spelt o = cond spelt (word_unless o w) (Err NotText)

@@ -10,7 +10,8 @@ use lib.Dec.{eqb, ltb}
 use lib.ListN.{length, drop, length-append, length-drop}
 use lib.Seq.{take-append_seam, drop-append_seam}
 use borrow.Author.Tests.{ltb-true, ltb-false, lt-ltb}
-use Rattle.isa.specs.Refusals.{number, refusal_number, first_failure}
+use Rattle.std.specs.Prelude.{Err, Ok, Result}
+use Rattle.isa.specs.Refusals.{number, refusal_number, first_failure, refusal_in, value_in}
 use Rattle.isa.specs.Table.{all_flags, word_for}
 use Rattle.isa.specs.Answers.{describe, missing, absent, room_tests, decode_of, decode_number}
 use Rattle.isa.specs.Claims.{HandsBack}
@@ -18,21 +19,19 @@ use Rattle.isa.specs.declared.Instruction.{Instruction}
 use Rattle.isa.specs.declared.Instruction.TheVariants.{Zero}
 use Rattle.isa.specs.declared.Refusal.{Refusal}
 use Rattle.isa.specs.declared.Refusal.TheVariants.{Flags, Unlisted, FeatureOff, Room}
-use Rattle.isa.specs.declared.Decoded.{Decoded}
-use Rattle.isa.specs.declared.Decoded.TheVariants.{Accepted, Refused as NotDecoded}
 use Rattle.isa.proofs.Answers.{decode_refused, room_refused, room_passed}
 use Rattle.isa.proofs.Tests.{all_every}
 use Rattle.isa.proofs.Sums.{handed, room_fair}
 use Rattle.isa.proofs.Theorems.{describe-word, accepted_in_range}
 use Rattle.names.proofs.Theorems.{one_list}
 use Rattle.text.specs.Spelling.{Text, spelling}
-use Rattle.text.specs.Printing.{text_of, print_tests, printed, print_of, filled, printed_refusal, printed_length, print_number, print_missing, print_length, room_after}
+use Rattle.text.specs.Printing.{text_of, print_tests, printed, print_of, filled, print_number, print_missing, print_length, room_after}
 use Rattle.text.specs.Claims.{OfLength, Holds, Prints, ZeroLine}
 use Rattle.text.proofs.Rooms.{accepted_text}
 use Rattle.text.proofs.Lengths.{line-between}
 
 -- decode refuses with 1, 7 or 8: with a number that a short room never gets
-pub decode_number_lem : (flags w : ℕ) (r : Refusal) → decode_of flags w ≡ NotDecoded r → (0 < number r) × (number r < 12)
+pub decode_number_lem : (flags w : ℕ) (r : Refusal) → decode_of flags w ≡ Err r → (0 < number r) × (number r < 12)
 decode_number_lem flags w r p = go (ltb all_flags flags) (absent (describe w)) (not (eqb (missing flags w) 0)) (missing flags w) (decode_refused flags w r p)
   where
     at : {q : Refusal} → q ≡ r → (0 < number q) × (number q < 12) → (0 < number r) × (number r < 12)
@@ -97,7 +96,7 @@ put_length none t = length t
 put_length (some r) t = 0
 
 -- every call that puts t has one of these outcomes
-module _ (Q : Type 0) (flags w : ℕ) (t room : List ℕ) (about : (i : Instruction) → decode_of flags w ≡ Accepted i → Q) where
+module _ (Q : Type 0) (flags w : ℕ) (t room : List ℕ) (about : (i : Instruction) → decode_of flags w ≡ Ok i → Q) where
   abbrev failure : Option Refusal
   failure = first_failure (room_tests flags w (length room) (length t))
 
@@ -109,19 +108,19 @@ module _ (Q : Type 0) (flags w : ℕ) (t room : List ℕ) (about : (i : Instruct
       by_room true q k = short (ltb-true (length room) (length t) q) k
       by_room false q k = fits (ltb-false (length room) (length t) q) k
 
-      by_answer : (a : Decoded) → decode_of flags w ≡ a
+      by_answer : (a : Result Instruction Refusal) → decode_of flags w ≡ a
           → Outcome Q t room (decode_number flags w) (refusal_number failure) (put_length failure t) (filled failure t room)
-      by_answer (NotDecoded r) e =
+      by_answer (Err r) e =
           let (h, l) = decode_number_lem flags w r e in
           rw (room_refused flags w (length room) (length t) r e, e) (refused h l)
-      by_answer (Accepted i) e = rw (room_passed flags w (length room) (length t) i e, e) (by_room (ltb (length room) (length t)) refl (about i e))
+      by_answer (Ok i) e = rw (room_passed flags w (length room) (length t) i e, e) (by_room (ltb (length room) (length t)) refl (about i e))
 
 -- a print's refusal and length, by its failure
-printed_refusal_lem : (o : Option Refusal) (t : Text) → printed_refusal (printed o t) ≡ o
+printed_refusal_lem : (o : Option Refusal) (t : Text) → refusal_in (printed o t) ≡ o
 printed_refusal_lem none t = refl
 printed_refusal_lem (some r) t = refl
 
-printed_length_lem : (o : Option Refusal) (t : Text) → printed_length (printed o t) ≡ put_length o t
+printed_length_lem : (o : Option Refusal) (t : Text) → value_in (printed o t) ≡ put_length o t
 printed_length_lem none t = refl
 printed_length_lem (some r) t = refl
 

@@ -1,13 +1,11 @@
 -- What print answers and what it leaves in the room (document 01, "Text" and "Refusal numbers", and document 02, C-15).
-use Rattle.std.specs.Prelude.{List, [], ◌++◌, ℕ, length, drop}
+use Rattle.std.specs.Prelude.{List, [], ◌++◌, ℕ, length, drop, Err, Ok, Result}
 use Rattle.std.proofs.Math.Option.{Option, none, some}
 use Rattle.isa.specs.Refusals.{refusal_number, refusal_missing, Test, first_failure}
 use Rattle.isa.specs.Answers.{describe, room_tests}
 use Rattle.isa.specs.declared.Instruction.{Instruction}
 use Rattle.isa.specs.declared.Refusal.{Refusal}
 use Rattle.text.specs.Spelling.{Text, spelling}
-use Rattle.text.specs.declared.Printed.{Printed}
-use Rattle.text.specs.declared.Printed.TheVariants.{Length, Refused}
 
 -- the text of a word; none of it where the table does not list the word
 abbrev pub spelt : Option Instruction → Text
@@ -21,12 +19,12 @@ text_of w = spelt (describe w)
 abbrev pub print_tests : ℕ → ℕ → ℕ → List Test
 print_tests flags w room = room_tests flags w room (length (text_of w))
 
-abbrev pub printed : Option Refusal → Text → Printed
-printed none t = Length (length t)
-printed (some r) t = Refused r
+abbrev pub printed : Option Refusal → Text → Result ℕ Refusal
+printed none t = Ok (length t)
+printed (some r) t = Err r
 
 -- the answer, for a room of so many bytes
-unfoldable pub print_of : ℕ → ℕ → ℕ → Printed
+unfoldable pub print_of : ℕ → ℕ → ℕ → Result ℕ Refusal
 print_of flags w room = printed (first_failure (print_tests flags w room)) (text_of w)
 
 -- the text at the start, and the bytes after it as they were; refused, all of them as they were
@@ -38,19 +36,19 @@ unfoldable pub room_after : ℕ → ℕ → List ℕ → List ℕ
 room_after flags w room = filled (first_failure (print_tests flags w (length room))) (text_of w) room
 
 -- the refusal of an answer, and the paper's number, sum and value
-abbrev pub printed_refusal : Printed → Option Refusal
-printed_refusal (Length n) = none
-printed_refusal (Refused r) = some r
+abbrev pub printed_refusal : Result ℕ Refusal → Option Refusal
+printed_refusal (Ok n) = none
+printed_refusal (Err r) = some r
 
-abbrev pub printed_number : Printed → ℕ
+abbrev pub printed_number : Result ℕ Refusal → ℕ
 printed_number a = refusal_number (printed_refusal a)
 
-abbrev pub printed_missing : Printed → ℕ
+abbrev pub printed_missing : Result ℕ Refusal → ℕ
 printed_missing a = refusal_missing (printed_refusal a)
 
-abbrev pub printed_length : Printed → ℕ
-printed_length (Length n) = n
-printed_length (Refused r) = 0
+abbrev pub printed_length : Result ℕ Refusal → ℕ
+printed_length (Ok n) = n
+printed_length (Err r) = 0
 
 -- and of print's answer, for a room of so many bytes
 abbrev pub print_number : ℕ → ℕ → ℕ → ℕ

@@ -1,13 +1,11 @@
 -- What putting a text on a line leaves, and what print does with the line: the words of its own contracts.
-use Rattle.std.specs.Prelude.{◌≡◌, cond, List, [], ◌∷◌, ◌++◌, ℕ, ◌+◌, ◌≤◌, eqb, ltb, length, take, drop}
+use Rattle.std.specs.Prelude.{◌≡◌, cond, List, [], ◌∷◌, ◌++◌, ℕ, ◌+◌, ◌≤◌, eqb, ltb, length, take, drop, Err, Ok, Result}
 use Rattle.isa.specs.declared.Instruction.{Instruction}
 use Rattle.isa.specs.declared.Refusal.TheVariants.{Room}
 use Rattle.names.specs.declared.TileName.{TileName}
 use Rattle.names.specs.Lists.{name_of}
 use Rattle.text.specs.Ascii.{ascii}
 use Rattle.text.specs.Spelling.{Text, decimal, suffix, name_text, further, spelling}
-use Rattle.text.specs.declared.Printed.{Printed}
-use Rattle.text.specs.declared.Printed.TheVariants.{Length, Refused}
 
 -- t, at most so many bytes, stands on the line from `at` to `next`; what stood before it is as it was
 pub record Put (most : ℕ) (before : List ℕ) (at : ℕ) (line : List ℕ) (next : ℕ) (t : Text) : Type 0 where
@@ -33,8 +31,8 @@ abbrev pub behind : Text → TileName → Text
 behind lead k = cond (eqb k.bytes 1) lead (lead ++ decimal k.tile.0 ++ suffix k.bytes)
 
 -- what print answers and leaves: for a word that passed 1, 7 and 8, its instruction alone decides
-abbrev pub printed_in : Instruction → ℕ → Printed
-printed_in i room = cond (ltb room (length (spelling i))) (Refused Room) (Length (length (spelling i)))
+abbrev pub printed_in : Instruction → ℕ → Result ℕ Refusal
+printed_in i room = cond (ltb room (length (spelling i))) (Err Room) (Ok (length (spelling i)))
 
 abbrev pub filled_with : Instruction → List ℕ → List ℕ
 filled_with i room = cond (ltb (length room) (length (spelling i))) room (spelling i ++ drop (length (spelling i)) room)

@@ -13,5 +13,5 @@ overflow_mul-result c = omega (arith, contents_fit c.read.ensures.reads c.in-Con
 pub returns-in-Contents : goal.returns-in-Contents
 returns-in-Contents c = contents_packed c.read.ensures.reads c.in-Contents.is c.contents_number.ensures
 
-pub returns-in-Refused : goal.returns-in-Refused
-returns-in-Refused c = refusal_packed c.read.ensures.reads c.in-Refused.is c.refused.ensures
+pub returns-in-Err : goal.returns-in-Err
+returns-in-Err c = refusal_packed c.read.ensures.reads c.in-Err.is c.refused.ensures

@@ -10,14 +10,14 @@ use Rattle.birdaghol.proofs.birdaghol_capture_write.Goals as goal
 pub overflow_mul-result : goal.overflow_mul-result
 overflow_mul-result c =
     let a = c.args in
-    omega (arith, written_small (capture_of _ a.words.now a.z.now a.p.now a.za.now) a.file.now _ (sym c.write.ensures.answer ∙ c.in-Length.is))
+    omega (arith, written_small (capture_of _ a.words.now a.z.now a.p.now a.za.now) a.file.now _ (sym c.write.ensures.answer ∙ c.in-Ok.is))
 
-pub returns-in-Length : goal.returns-in-Length
-returns-in-Length c =
+pub returns-in-Ok : goal.returns-in-Ok
+returns-in-Ok c =
     let e = rw c.bench_of.ensures at c.write.ensures in
-    record { answer = value_alone _ ∙ sym (ap packed_written (sym e.answer ∙ c.in-Length.is)); file_after = e.room_after }
+    record { answer = value_alone _ ∙ sym (ap packed_written (sym e.answer ∙ c.in-Ok.is)); file_after = e.room_after }
 
-pub returns-in-Refused : goal.returns-in-Refused
-returns-in-Refused c =
+pub returns-in-Err : goal.returns-in-Err
+returns-in-Err c =
     let e = rw c.bench_of.ensures at c.write.ensures in
-    record { answer = c.refused.ensures ∙ sym (ap packed_written (sym e.answer ∙ c.in-Refused.is)); file_after = e.room_after }
+    record { answer = c.refused.ensures ∙ sym (ap packed_written (sym e.answer ∙ c.in-Err.is)); file_after = e.room_after }

@@ -9,14 +9,14 @@ use borrow.Author.Rules.{rules}
 use Rattle.birdaghol.proofs.birdaghol_print.Goals as goal
 
 pub overflow_mul-result : goal.overflow_mul-result
-overflow_mul-result c = omega (arith, printed_short _ _ c.args.room.now _ (sym c.print.ensures.answer ∙ c.in-Length.is))
+overflow_mul-result c = omega (arith, printed_short _ _ c.args.room.now _ (sym c.print.ensures.answer ∙ c.in-Ok.is))
 
-pub returns-in-Length : goal.returns-in-Length
-returns-in-Length c =
+pub returns-in-Ok : goal.returns-in-Ok
+returns-in-Ok c =
     let e = c.print.ensures in
-    record { answer = value_alone _ ∙ sym (ap packed_printed (sym e.answer ∙ c.in-Length.is)); room_after = e.room_after }
+    record { answer = value_alone _ ∙ sym (ap packed_printed (sym e.answer ∙ c.in-Ok.is)); room_after = e.room_after }
 
-pub returns-in-Refused : goal.returns-in-Refused
-returns-in-Refused c =
+pub returns-in-Err : goal.returns-in-Err
+returns-in-Err c =
     let e = c.print.ensures in
-    record { answer = c.refused.ensures ∙ sym (ap packed_printed (sym e.answer ∙ c.in-Refused.is)); room_after = e.room_after }
+    record { answer = c.refused.ensures ∙ sym (ap packed_printed (sym e.answer ∙ c.in-Err.is)); room_after = e.room_after }

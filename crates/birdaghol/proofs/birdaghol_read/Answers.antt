@@ -4,8 +4,8 @@ use Rattle.birdaghol.specs.Calls.{packed_reading}
 use Rattle.birdaghol.proofs.Packing.{value_alone}
 use Rattle.birdaghol.proofs.birdaghol_read.Goals as goal
 
-pub returns-in-Word : goal.returns-in-Word
-returns-in-Word c = value_alone _ ∙ sym (ap packed_reading (sym c.read.ensures.answer ∙ c.in-Word.is))
+pub returns-in-Ok : goal.returns-in-Ok
+returns-in-Ok c = value_alone _ ∙ sym (ap packed_reading (sym c.read.ensures.answer ∙ c.in-Ok.is))
 
-pub returns-in-Refused : goal.returns-in-Refused
-returns-in-Refused c = c.refused.ensures ∙ sym (ap packed_reading (sym c.read.ensures.answer ∙ c.in-Refused.is))
+pub returns-in-Err : goal.returns-in-Err
+returns-in-Err c = c.refused.ensures ∙ sym (ap packed_reading (sym c.read.ensures.answer ∙ c.in-Err.is))

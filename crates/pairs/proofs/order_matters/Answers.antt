@@ -3,8 +3,8 @@ use mathlib.Core.Path.{◌≡◌, refl, ◌∙◌, sym, ap₂}
 use mathlib.Core.Bool.{false}
 use mathlib.Core.Option.{Option, none, some}
 use Prim.Native.Nat.{ℕ}
+use Rattle.std.specs.Prelude.{Result}
 use Rattle.isa.specs.Answers.{decode_of}
-use Rattle.isa.specs.declared.Decoded.{Decoded}
 use Rattle.isa.proofs.Theorems.{accepted_in_range}
 use Rattle.machine.specs.Instructions.{TileName, tile_named}
 use Rattle.pairs.specs.Order.{clash, tile_decoded, order_matters}
@@ -14,25 +14,25 @@ clash-none : (x : Option TileName) → clash x none ≡ false
 clash-none none = refl
 clash-none (some n) = refl
 
-by_decode : (flags a b : ℕ) (d e : Decoded) → decode_of flags a ≡ d → decode_of flags b ≡ e → order_matters flags a b ≡ clash (tile_decoded d) (tile_decoded e)
+by_decode : (flags a b : ℕ) (d e : Result Instruction Refusal) → decode_of flags a ≡ d → decode_of flags b ≡ e → order_matters flags a b ≡ clash (tile_decoded d) (tile_decoded e)
 unfolding order_matters
 by_decode flags a b d e p q = ap₂ (λ x y. clash (tile_decoded x) (tile_decoded y)) p q
 
 pub instructions_clash-requires : goal.instructions_clash-requires
-instructions_clash-requires c = (accepted_in_range _ _ _ (sym c.decode.ensures.answer ∙ c.in-Accepted.is), accepted_in_range _ _ _ (sym c.decode-in-Accepted.ensures.answer ∙ c.in-Accepted-decode.is))
+instructions_clash-requires c = (accepted_in_range _ _ _ (sym c.decode.ensures.answer ∙ c.in-Ok.is), accepted_in_range _ _ _ (sym c.decode-in-Ok.ensures.answer ∙ c.in-Ok-decode.is))
 
-pub returns-in-Refused : goal.returns-in-Refused
-returns-in-Refused c =
+pub returns-in-Err : goal.returns-in-Err
+returns-in-Err c =
     let a = c.args in
-    sym (by_decode a.flags a.a a.b _ _ (sym c.decode.ensures.answer ∙ c.in-Refused.is) refl)
+    sym (by_decode a.flags a.a a.b _ _ (sym c.decode.ensures.answer ∙ c.in-Err.is) refl)
 
-pub returns-in-Refused-decode : goal.returns-in-Refused-decode
-returns-in-Refused-decode c =
+pub returns-in-Err-decode : goal.returns-in-Err-decode
+returns-in-Err-decode c =
     let a = c.args in
-    sym (by_decode a.flags a.a a.b _ _ (sym c.decode.ensures.answer ∙ c.in-Accepted.is) (sym c.decode-in-Accepted.ensures.answer ∙ c.in-Refused-decode.is)
-    ∙ clash-none (tile_named (some c.in-Accepted.i)))
+    sym (by_decode a.flags a.a a.b _ _ (sym c.decode.ensures.answer ∙ c.in-Ok.is) (sym c.decode-in-Ok.ensures.answer ∙ c.in-Err-decode.is)
+    ∙ clash-none (tile_named (some c.in-Ok.i)))
 
-pub returns-in-Accepted-decode : goal.returns-in-Accepted-decode
-returns-in-Accepted-decode c =
+pub returns-in-Ok-decode : goal.returns-in-Ok-decode
+returns-in-Ok-decode c =
     let a = c.args in
-    c.instructions_clash.ensures ∙ sym (by_decode a.flags a.a a.b _ _ (sym c.decode.ensures.answer ∙ c.in-Accepted.is) (sym c.decode-in-Accepted.ensures.answer ∙ c.in-Accepted-decode.is))
+    c.instructions_clash.ensures ∙ sym (by_decode a.flags a.a a.b _ _ (sym c.decode.ensures.answer ∙ c.in-Ok.is) (sym c.decode-in-Ok.ensures.answer ∙ c.in-Ok-decode.is))

@@ -14,15 +14,15 @@ returns-then-words-ne0 c = let a = c.args in not-words a.file.now a.head a.words
 pub returns-then-file-gt3 : goal.returns-then-file-gt3
 returns-then-file-gt3 c = let a = c.args in not-modes a.file.now a.head a.words a.z a.p a.za c.requires.five_parts c.if-file-gt3.true
 
-pub returns-in-Refused : goal.returns-in-Refused
-returns-in-Refused c =
+pub returns-in-Err : goal.returns-in-Err
+returns-in-Err c =
     let a = c.args in
     not_begun a.file.now a.head a.words a.z a.p a.za c.requires.five_parts _ _ c.bench_at-bench.ensures
-    (outcome_refused _ _ (sym c.in-Refused.is ∙ c.check_run.ensures.answer))
+    (outcome_refused _ _ (sym c.in-Err.is ∙ c.check_run.ensures.answer))
 
-pub returns-in-Done : goal.returns-in-Done
-returns-in-Done c =
+pub returns-in-Ok : goal.returns-in-Ok
+returns-in-Ok c =
     let a = c.args in
     found_begun a.file.now a.head a.words a.z a.p a.za c.requires.five_parts _ c.bench_at-bench.ensures
     (λ i. omega (arith, c.shared_slice_known-1.given i)) c.requires.version c.if-head-ne4.false c.if-words-ne0.false c.if-file-gt3.false
-    (outcome_done _ (sym c.in-Done.is ∙ c.check_run.ensures.answer))
+    (outcome_done _ (sym c.in-Ok.is ∙ c.check_run.ensures.answer))

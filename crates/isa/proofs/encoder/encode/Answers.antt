@@ -1,33 +1,24 @@
--- `isa::encoder::encode` meets its contract, by its callees'; every byte is a mask. Assumes nothing.
+-- `isa::encoder::encode` meets its contract, by the test of the range. Assumes nothing.
 use mathlib.Core.Path.{◌≡◌, ◌∙◌, sym, ap}
-use native.Mathlib.Omega.{arith}
-use borrow.Author.Rules.{rules}
-use borrow.Author.Tests.{lt-ltb}
-use Rattle.isa.specs.Table.{ranges}
-use Rattle.isa.specs.Answers.{encode_of, encoded_number, encoded_word, encode_number, encode_word}
+use Prim.Native.Nat.{ℕ}
+use Rattle.std.specs.Prelude.{Result, Ok}
+use Rattle.isa.specs.Refusals.{number_in, value_in}
+use Rattle.isa.specs.Answers.{encode_of, encode_number, encode_word}
 use Rattle.isa.specs.declared.Instruction.{Instruction}
-use Rattle.isa.specs.declared.Instruction.TheVariants.{Zero}
-use Rattle.isa.specs.declared.Encoded.{Encoded}
-use Rattle.isa.specs.declared.Encoded.TheVariants.{Word}
-use Rattle.isa.proofs.Tests.{all_every}
-use Rattle.isa.proofs.Answers.{encode_in_range}
+use Rattle.isa.specs.declared.Refusal.{Refusal}
+use Rattle.isa.proofs.Answers.{encode_in_range, encode_out_of_range}
 use Rattle.isa.proofs.encoder.encode.Goals as goal
 
 -- an answer that is the definition's has its number and its word
-answers : (i : Instruction) {r : Encoded} → r ≡ encode_of i → record {
+answers : (i : Instruction) {r : Result ℕ Refusal} → r ≡ encode_of i → record {
   answer : r ≡ encode_of i;
-  number : encoded_number r ≡ encode_number i;
-  word : encoded_word r ≡ encode_word i;
+  number : number_in r ≡ encode_number i;
+  word : value_in r ≡ encode_word i;
 }
-answers i p = record { answer = p; number = ap encoded_number p; word = ap encoded_word p }
+answers i p = record { answer = p; number = ap number_in p; word = ap value_in p }
 
-pub returns-in-Predicated : goal.returns-in-Predicated
-returns-in-Predicated c = answers _ (c.encode_predicated.ensures ∙ sym (ap encode_of c.in-Predicated.is))
+pub returns-then-in_range : goal.returns-then-in_range
+returns-then-in_range c = answers _ (ap Ok c.word_for.ensures ∙ sym (encode_in_range _ (sym c.in_range.ensures ∙ c.if-in_range.true)))
 
-pub returns-in-Quarter : goal.returns-in-Quarter
-returns-in-Quarter c = answers _ (c.encode_quarter.ensures ∙ sym (ap encode_of c.in-Quarter.is))
-
-pub returns-in-Zero : goal.returns-in-Zero
-returns-in-Zero c =
-    let h = all_every (ranges (Zero c.in-Zero.mask)) (lt-ltb c.in-Zero.mask 256 (search rules), tt) in
-    answers c.args.i (sym (ap encode_of c.in-Zero.is ∙ encode_in_range _ h ∙ ap Word (omega arith)))
+pub returns-else-in_range : goal.returns-else-in_range
+returns-else-in_range c = answers _ (sym (encode_out_of_range _ (sym c.in_range.ensures ∙ c.if-in_range.false)))

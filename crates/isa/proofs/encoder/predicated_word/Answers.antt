@@ -4,36 +4,29 @@ use mathlib.Core.Bool.{not, ◌&&◌}
 use Prim.Native.Nat.{◌+◌}
 use native.Mathlib.Omega.{arith}
 use Rattle.isa.specs.Table.{predicated64, word_for, fields_from}
-use Rattle.isa.specs.declared.Instruction.{Instruction}
 use Rattle.isa.specs.declared.Instruction.TheVariants.{Predicated}
 use Rattle.isa.proofs.Rows.{Fit}
 use Rattle.isa.proofs.Lines.{predicated_range, predicated-sum, bit_lt, u1_bit, word-described}
 use Rattle.isa.proofs.encoder.predicated_word.Goals as goal
-
-abbrev described : goal.Start → Instruction
-described c = let a = c.args in Predicated a.op a.tile a.pn a.pm a.zn a.zm
-
-fit : (c : goal.Start) → Fit predicated64 (fields_from (described c))
-fit c = let a = c.args in predicated_range a.op a.tile a.pn a.pm a.zn a.zm c.requires
+use Rattle.isa.proofs.encoder.predicated_word.Goals.{After-predicated_bits}
 
 -- the sum is the row's word
-sum_is : (c : goal.After-by_shape) → c.by_shape.result + (c.operation_bits.result + c.predicated_bits.result) ≡ word_for (described c.before.before.before)
+sum_is : (c : After-predicated_bits) → c.by_shape-row.result + (c.operation_bits.result + c.predicated_bits.result) ≡ word_for (Predicated c.args.p)
 sum_is c =
-    let i = described c.before.before.before in
-    let op = c.args.op in
-    omega (arith, predicated-sum op (fields_from i), u1_bit op)
+    let i = Predicated c.args.p in
+    omega (arith, predicated-sum c.args.p.op (fields_from i), u1_bit c.args.p.op)
 
 pub operation_bits-requires : goal.operation_bits-requires
-operation_bits-requires c = omega (arith, fit c)
+operation_bits-requires c = omega (arith, predicated_range c.args.p c.requires)
 
 pub predicated_bits-requires : goal.predicated_bits-requires
-predicated_bits-requires c = omega (arith, fit c.before)
-
-pub overflow_add-fields : goal.overflow_add-fields
-overflow_add-fields c = let op = c.args.op in omega (arith, fit c.before.before, bit_lt (op.u1 && not op.two_way))
+predicated_bits-requires c = omega (arith, predicated_range c.args.p c.requires)
 
 pub overflow_add-result : goal.overflow_add-result
-overflow_add-result c = record { fits = rw (sum_is c) (word-described (described c.before.before.before) c.requires).fits }
+overflow_add-result c = let op = c.args.p.op in omega (arith, predicated_range c.args.p c.requires, bit_lt (op.u1 && not op.two_way))
+
+pub overflow_add-result-2 : goal.overflow_add-result-2
+overflow_add-result-2 c = record { fits = rw (sum_is c) (word-described (Predicated c.args.p) c.requires).fits }
 
 pub returns : goal.returns
 returns c = sum_is c

@@ -4,12 +4,12 @@ use mathlib.Core.Bool.{Bool, true, not}
 use mathlib.Core.List.{List, [], ◌∷◌, ◌++◌}
 use mathlib.Core.Option.{Option, some}
 use borrow.Author.Rules.{rules}
+use Rattle.std.specs.Prelude.{Ok, Result}
 use Rattle.isa.specs.Refusals.{Test, first_failure}
 use Rattle.isa.specs.Answers.{describe, decided, decode_of}
 use Rattle.isa.specs.declared.Refusal.{Refusal}
 use Rattle.isa.specs.declared.Refusal.TheVariants.{NotCleared}
 use Rattle.isa.specs.declared.Instruction.{Instruction}
-use Rattle.isa.specs.declared.Decoded.TheVariants.{Accepted}
 use Rattle.isa.proofs.Answers.{decode_passed}
 use Rattle.isa.proofs.Theorems.{described_is}
 use Rattle.storage.specs.Tile.{masked}
@@ -20,11 +20,9 @@ use Rattle.machine.specs.Clearing.{cleared_test}
 use Rattle.machine.specs.Lists.{next_tests}
 use Rattle.machine.proofs.Tests.{outcome_done, outcome_refused, word_refused, word-accepted}
 use Prim.Native.Nat.{ℕ, ◌≤◌}
-use Rattle.isa.specs.declared.Decoded.{Decoded}
 use Rattle.storage.specs.Sizes.{legal}
 use Rattle.isa.specs.Table.{all_flags}
 use Rattle.machine.specs.declared.Bench.{Bench}
-use Rattle.machine.specs.declared.Outcome.{Outcome}
 use Rattle.machine.specs.Instructions.{tile_named}
 use Rattle.machine.specs.Clearing.{TellsCleared}
 use Rattle.machine.proofs.admission.admit_next.Goals as goal
@@ -37,15 +35,15 @@ abbrev refusal : Bench → ℕ → ℕ → Option Refusal
 refusal b cleared w = first_failure (next_tests b (masked cleared) w)
 
 -- ---- a word that decode accepts
-module _ (b : Bench) (w : ℕ) {r : Decoded} {i : Instruction} (e : r ≡ decode_of b.flags w) (q : r ≡ Accepted i) where
-  decoded : decode_of b.flags w ≡ Accepted i
+module _ (b : Bench) (w : ℕ) {r : Result Instruction Refusal} {i : Instruction} (e : r ≡ decode_of b.flags w) (q : r ≡ Ok i) where
+  decoded : decode_of b.flags w ≡ Ok i
   decoded = sym e ∙ q
 
   is_described : describe w ≡ some i
   is_described = (decode_passed _ _ _ decoded).1
 
   -- what is left are the modes and the tile
-  tested : (cleared : ℕ) {o : Outcome} {n : Modes} {t : Bool} → b.flags ≤ all_flags → legal b.vb ≡ true
+  tested : (cleared : ℕ) {o : Result Unit Refusal} {n : Modes} {t : Bool} → b.flags ≤ all_flags → legal b.vb ≡ true
       → o ≡ outcome (first_failure (mode_tests b n ++ (record { fails = not t; gives = NotCleared } ∷ [])))
       → n ≡ modes_of (some i) → TellsCleared t cleared (tile_named (some i)) → o ≡ outcome (refusal b cleared w)
   tested cleared l v u m k =
@@ -55,25 +53,25 @@ module _ (b : Bench) (w : ℕ) {r : Decoded} {i : Instruction} (e : r ≡ decode
       ∙ ap (λ d. first_failure (mode_tests b (modes_of (some i)) ++ last b cleared d)) is_described))
 
 pub named_cleared-requires : goal.named_cleared-requires
-named_cleared-requires c = (described_is _ _ (search rules) (is_described c.args.bench c.args.word c.decode.ensures.answer c.in-Accepted.is)).0
+named_cleared-requires c = (described_is _ _ (search rules) (is_described c.args.bench c.args.word c.decode.ensures.answer c.in-Ok.is)).0
 
-pub returns-in-Refused : goal.returns-in-Refused
-returns-in-Refused c =
+pub returns-in-Err : goal.returns-in-Err
+returns-in-Err c =
     let w = c.args.word in
-    let f = word_refused c.args.bench w c.requires.0 (last c.args.bench c.args.cleared (describe w)) _ (sym c.decode.ensures.answer ∙ c.in-Refused.is) in
+    let f = word_refused c.args.bench w c.requires.0 (last c.args.bench c.args.cleared (describe w)) _ (sym c.decode.ensures.answer ∙ c.in-Err.is) in
     sym (ap (λ o. decided o (describe w)) f)
 
-pub returns-in-Refused-check_needs : goal.returns-in-Refused-check_needs
-returns-in-Refused-check_needs c =
+pub returns-in-Err-check_needs : goal.returns-in-Err-check_needs
+returns-in-Err-check_needs c =
     let a = c.args in
-    let t = tested a.bench a.word c.decode.ensures.answer c.in-Accepted.is a.cleared c.requires.0 c.requires.1
+    let t = tested a.bench a.word c.decode.ensures.answer c.in-Ok.is a.cleared c.requires.0 c.requires.1
     c.check_needs.ensures c.modes_of.ensures c.named_cleared.ensures in
-    sym (ap (λ o. decided o (describe a.word)) (outcome_refused (refusal a.bench a.cleared a.word) _ (sym c.in-Refused-check_needs.is ∙ t)))
+    sym (ap (λ o. decided o (describe a.word)) (outcome_refused (refusal a.bench a.cleared a.word) _ (sym c.in-Err-check_needs.is ∙ t)))
 
-pub returns-in-Done : goal.returns-in-Done
-returns-in-Done c =
+pub returns-in-Ok : goal.returns-in-Ok
+returns-in-Ok c =
     let a = c.args in
-    let t = tested a.bench a.word c.decode.ensures.answer c.in-Accepted.is a.cleared c.requires.0 c.requires.1
+    let t = tested a.bench a.word c.decode.ensures.answer c.in-Ok.is a.cleared c.requires.0 c.requires.1
     c.check_needs.ensures c.modes_of.ensures c.named_cleared.ensures in
-    sym (ap₂ decided (outcome_done (refusal a.bench a.cleared a.word) (sym c.in-Done.is ∙ t))
-    (is_described a.bench a.word c.decode.ensures.answer c.in-Accepted.is))
+    sym (ap₂ decided (outcome_done (refusal a.bench a.cleared a.word) (sym c.in-Ok.is ∙ t))
+    (is_described a.bench a.word c.decode.ensures.answer c.in-Ok.is))

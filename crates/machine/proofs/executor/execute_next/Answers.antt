@@ -4,6 +4,7 @@ use mathlib.Core.List.{List, [], ◌∷◌}
 use mathlib.Core.Option.{Option, none, some}
 use Prim.Native.Nat.{ℕ}
 use borrow.Author.Rules.{rules}
+use Rattle.std.specs.Prelude.{Ok, Result}
 use Rattle.isa.specs.Refusals.{Test, first_failure}
 use Rattle.isa.specs.Answers.{describe}
 use Rattle.isa.specs.declared.Instruction.{Instruction}
@@ -15,8 +16,6 @@ use Rattle.machine.specs.Execution.{effect, unless}
 use Rattle.machine.specs.Clearing.{cleared_test}
 use Rattle.machine.specs.Lists.{next_tests}
 use Rattle.machine.proofs.Tests.{machine_passes, admit_accepted, admit_refused}
-use Rattle.isa.specs.declared.Decoded.{Decoded}
-use Rattle.isa.specs.declared.Decoded.TheVariants.{Accepted}
 use Rattle.isa.specs.Answers.{decided}
 use Rattle.machine.specs.declared.Bench.{Bench}
 use Rattle.machine.proofs.executor.execute_next.Goals as goal
@@ -29,8 +28,8 @@ last b cleared w = cleared_test b.vb (masked cleared) (describe w) ∷ []
 abbrev left : Machine → Option Refusal → Option Instruction → List ℕ
 left m o d = (unless o m (effect m d)).za
 
-admitted : (b : Bench) (cleared w : ℕ) {r : Decoded} {i : Instruction} → r ≡ decided (first_failure (next_tests b (masked cleared) w)) (describe w)
-    → r ≡ Accepted i → (first_failure (next_tests b (masked cleared) w) ≡ none) × (describe w ≡ some i)
+admitted : (b : Bench) (cleared w : ℕ) {r : Result Instruction Refusal} {i : Instruction} → r ≡ decided (first_failure (next_tests b (masked cleared) w)) (describe w)
+    → r ≡ Ok i → (first_failure (next_tests b (masked cleared) w) ≡ none) × (describe w ≡ some i)
 admitted b cleared w p q = admit_accepted b w (last b cleared w) _ (sym q ∙ p)
 
 pub admit_next-requires : goal.admit_next-requires
@@ -41,21 +40,21 @@ admit_next-requires c =
 pub perform-requires : goal.perform-requires
 perform-requires c = record {
   bench_passes = c.requires;
-  ranged = (described_is _ _ (search rules) (admitted c.args.bench c.args.cleared c.args.word c.admit_next.ensures c.in-Accepted.is).1).0;
+  ranged = (described_is _ _ (search rules) (admitted c.args.bench c.args.cleared c.args.word c.admit_next.ensures c.in-Ok.is).1).0;
 }
 
-pub returns-in-Refused : goal.returns-in-Refused
-returns-in-Refused c =
+pub returns-in-Err : goal.returns-in-Err
+returns-in-Err c =
     let a = c.args in
-    let r = sym c.in-Refused.is ∙ c.admit_next.ensures in
+    let r = sym c.in-Err.is ∙ c.admit_next.ensures in
     let f = admit_refused a.bench a.word (last a.bench a.cleared a.word) _ r in
     record { answer = r; za_after = sym (ap (λ o. left (on a.bench a.z.now a.p.now a.za.now) o (describe a.word)) f) }
 
-pub returns-in-Accepted : goal.returns-in-Accepted
-returns-in-Accepted c =
+pub returns-in-Ok : goal.returns-in-Ok
+returns-in-Ok c =
     let a = c.args in
-    let (f, d) = admitted a.bench a.cleared a.word c.admit_next.ensures c.in-Accepted.is in
+    let (f, d) = admitted a.bench a.cleared a.word c.admit_next.ensures c.in-Ok.is in
     record {
-      answer = sym c.in-Accepted.is ∙ c.admit_next.ensures;
+      answer = sym c.in-Ok.is ∙ c.admit_next.ensures;
       za_after = c.perform.ensures ∙ sym (ap₂ (left (on a.bench a.z.now a.p.now a.za.now)) f d);
     }

@@ -1,6 +1,7 @@
 -- `machine::executor::execute_word` meets its contract: where every tile counts as cleared, 14 refuses nothing. Assumes nothing.
 use mathlib.Core.Path.{◌≡◌, ◌∙◌, sym, ap}
 use mathlib.Core.List.{[]}
+use Rattle.std.specs.Prelude.{Result}
 use Rattle.isa.specs.Refusals.{first_failure}
 use Rattle.isa.specs.Answers.{describe, decided}
 use Rattle.storage.specs.Tile.{masked}
@@ -10,13 +11,12 @@ use Rattle.machine.specs.Lists.{next_tests}
 use Rattle.machine.proofs.Tests.{admit_accepted, admit_refused}
 use Rattle.machine.proofs.Masks.{tested_singly}
 use Prim.Native.Nat.{ℕ}
-use Rattle.isa.specs.declared.Decoded.{Decoded}
 use Rattle.machine.specs.declared.Bench.{Bench}
 use Rattle.machine.specs.Execution.{word_tests}
 use Rattle.machine.proofs.executor.execute_word.Goals as goal
 
 -- what is answered and what is left, by tests 7 to 10 alone
-answered : (b : Bench) (w : ℕ) {r : Decoded} → r ≡ decided (first_failure (next_tests b (masked 255) w)) (describe w)
+answered : (b : Bench) (w : ℕ) {r : Result Instruction Refusal} → r ≡ decided (first_failure (next_tests b (masked 255) w)) (describe w)
     → r ≡ decided (first_failure (word_tests b w)) (describe w)
 answered b w e = e ∙ ap (λ o. decided o (describe w)) (tested_singly b w)
 
@@ -26,20 +26,20 @@ left m w = ap (λ o. (left_by m w o).za) (tested_singly m.bench w)
 pub execute_next-requires : goal.execute_next-requires
 execute_next-requires c = c.requires
 
-pub returns-in-Refused : goal.returns-in-Refused
-returns-in-Refused c =
+pub returns-in-Err : goal.returns-in-Err
+returns-in-Err c =
     let a = c.args in
     let e = c.execute_next.ensures in
     record {
-      answer = sym (ap outcome (admit_refused a.bench a.word [] _ (sym c.in-Refused.is ∙ answered a.bench a.word e.answer)));
+      answer = sym (ap outcome (admit_refused a.bench a.word [] _ (sym c.in-Err.is ∙ answered a.bench a.word e.answer)));
       za_after = e.za_after ∙ left (on a.bench a.z.now a.p.now a.za.now) a.word;
     }
 
-pub returns-in-Accepted : goal.returns-in-Accepted
-returns-in-Accepted c =
+pub returns-in-Ok : goal.returns-in-Ok
+returns-in-Ok c =
     let a = c.args in
     let e = c.execute_next.ensures in
     record {
-      answer = sym (ap outcome (admit_accepted a.bench a.word [] _ (sym c.in-Accepted.is ∙ answered a.bench a.word e.answer)).0);
+      answer = sym (ap outcome (admit_accepted a.bench a.word [] _ (sym c.in-Ok.is ∙ answered a.bench a.word e.answer)).0);
       za_after = e.za_after ∙ left (on a.bench a.z.now a.p.now a.za.now) a.word;
     }

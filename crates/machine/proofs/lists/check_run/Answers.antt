@@ -9,16 +9,16 @@ pub returns-then-words-gt-MOST_WORDS : goal.returns-then-words-gt-MOST_WORDS
 returns-then-words-gt-MOST_WORDS c =
     let a = c.args in
     start-answered a.bench a.z a.p a.za a.words
-    (sym (ap outcome (start_too_long a.bench a.z a.p a.za a.words (outcome_done _ (sym c.in-Done.is ∙ c.check_bench.ensures)) c.if-words-gt-MOST_WORDS.true)))
+    (sym (ap outcome (start_too_long a.bench a.z a.p a.za a.words (outcome_done _ (sym c.in-Ok.is ∙ c.check_bench.ensures)) c.if-words-gt-MOST_WORDS.true)))
 
-pub returns-in-Refused : goal.returns-in-Refused
-returns-in-Refused c =
+pub returns-in-Err : goal.returns-in-Err
+returns-in-Err c =
     let a = c.args in
     start-answered a.bench a.z a.p a.za a.words
-    (sym (ap outcome (start_refused a.bench a.z a.p a.za a.words _ (outcome_refused _ _ (sym c.in-Refused.is ∙ c.check_bench.ensures)))))
+    (sym (ap outcome (start_refused a.bench a.z a.p a.za a.words _ (outcome_refused _ _ (sym c.in-Err.is ∙ c.check_bench.ensures)))))
 
 pub returns-else-words-gt-MOST_WORDS : goal.returns-else-words-gt-MOST_WORDS
 returns-else-words-gt-MOST_WORDS c =
     let a = c.args in
     start-answered a.bench a.z a.p a.za a.words
-    (sym (ap outcome (start_none a.bench a.z a.p a.za a.words (outcome_done _ (sym c.in-Done.is ∙ c.check_bench.ensures)) c.if-words-gt-MOST_WORDS.false)))
+    (sym (ap outcome (start_none a.bench a.z a.p a.za a.words (outcome_done _ (sym c.in-Ok.is ∙ c.check_bench.ensures)) c.if-words-gt-MOST_WORDS.false)))

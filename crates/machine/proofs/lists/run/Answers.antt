@@ -8,12 +8,12 @@ use Rattle.machine.proofs.lists.run.Goals as goal
 pub run_words-requires : goal.run_words-requires
 run_words-requires c =
     let a = c.args in
-    run_bench_passed (on a.bench a.z.now a.p.now a.za.now) a.words.now (outcome_done _ (sym c.in-Done.is ∙ c.check_run.ensures.answer))
+    run_bench_passed (on a.bench a.z.now a.p.now a.za.now) a.words.now (outcome_done _ (sym c.in-Ok.is ∙ c.check_run.ensures.answer))
 
-pub returns-in-Refused : goal.returns-in-Refused
-returns-in-Refused c = run_unbegun _ _ _ (outcome_refused _ _ (sym c.in-Refused.is ∙ c.check_run.ensures.answer))
+pub returns-in-Err : goal.returns-in-Err
+returns-in-Err c = run_unbegun _ _ _ (outcome_refused _ _ (sym c.in-Err.is ∙ c.check_run.ensures.answer))
 
-pub returns-in-Done : goal.returns-in-Done
-returns-in-Done c =
+pub returns-in-Ok : goal.returns-in-Ok
+returns-in-Ok c =
     let e = c.run_words.ensures in
-    run_words-played _ _ (outcome_done _ (sym c.in-Done.is ∙ c.check_run.ensures.answer)) _ _ e.answer e.za_after
+    run_words-played _ _ (outcome_done _ (sym c.in-Ok.is ∙ c.check_run.ensures.answer)) _ _ e.answer e.za_after

@@ -6,6 +6,7 @@ use mathlib.Core.Option.{none, some}
 use Prim.Native.Nat.{ℕ}
 use native.Mathlib.Omega.{arith}
 use lib.ListN.{get_or}
+use Rattle.std.specs.Prelude.{Err, Ok, Result}
 use Rattle.isa.specs.Refusals.{Test}
 use Rattle.isa.specs.Answers.{describe}
 use Rattle.storage.specs.Tile.{masked}
@@ -16,8 +17,6 @@ use Rattle.machine.specs.Lists.{Progress, next_refusal}
 use Rattle.machine.proofs.Tests.{admit_accepted, admit_refused}
 use Rattle.machine.proofs.Keeping.{same_tests}
 use Rattle.machine.proofs.Runs.{by_mask, nothing_cleared, executed_next, run_start, run_turn, run_refused, run_end, as_single}
-use Rattle.isa.specs.declared.Decoded.{Decoded}
-use Rattle.isa.specs.declared.Decoded.TheVariants.{Accepted, Refused}
 use Rattle.isa.specs.declared.Instruction.{Instruction}
 use Rattle.isa.specs.declared.Refusal.{Refusal}
 use Rattle.isa.specs.Answers.{decided}
@@ -32,11 +31,11 @@ module _ (b : Bench) (z p za : List ℕ) (cleared w : ℕ) where
   abbrev last : List Test
   last = cleared_test b.vb (masked cleared) (describe w) ∷ []
 
-  admitted : {r : Decoded} {i : Instruction} → r ≡ decided (next_refusal progress w) (describe w) → r ≡ Accepted i
+  admitted : {r : Result Instruction Refusal} {i : Instruction} → r ≡ decided (next_refusal progress w) (describe w) → r ≡ Ok i
       → (next_refusal progress w ≡ none) × (describe w ≡ some i)
   admitted e q = admit_accepted b w last _ (sym q ∙ e)
 
-  refused : {r : Decoded} {f : Refusal} → r ≡ decided (next_refusal progress w) (describe w) → r ≡ Refused f → next_refusal progress w ≡ some f
+  refused : {r : Result Instruction Refusal} {f : Refusal} → r ≡ decided (next_refusal progress w) (describe w) → r ≡ Err f → next_refusal progress w ≡ some f
   refused e q = admit_refused b w last _ (sym q ∙ e)
 
 pub loop-i-init : goal.loop-i-init
@@ -53,7 +52,7 @@ loop-i-preserved c =
     let w = get_or a.words.now l.i 0 in
     let s = progress a.bench a.z.now a.p.now l.za l.cleared w in
     let x = c.execute_next.ensures in
-    let (f, d) = admitted a.bench a.z.now a.p.now l.za l.cleared w x.answer c.in-Accepted.is in
+    let (f, d) = admitted a.bench a.z.now a.p.now l.za l.cleared w x.answer c.in-Ok.is in
     run_turn _ _ s _ l.invariant c.if-words-i.false _ f
     (executed_next s.machine l.cleared w _ _ (as_single s w _ (same_tests l.invariant.alike ∙ c.requires) f x.za_after)
     (λ r. c.also_cleared-cleared.ensures r ∙ ap (λ o. masked l.cleared r || in_mask (mask_of o) r) (sym d)))
@@ -64,11 +63,11 @@ shape_of-za-then-words-i c = c.loop-i.invariant.alike.za_length
 pub returns-then-words-i : goal.returns-then-words-i
 returns-then-words-i c = run_end _ _ _ _ c.loop-i.invariant (omega arith)
 
-pub returns-in-Refused : goal.returns-in-Refused
-returns-in-Refused c =
+pub returns-in-Err : goal.returns-in-Err
+returns-in-Err c =
     let a = c.args in
     let l = c.loop-i in
     let w = get_or a.words.now l.i 0 in
     let e = c.execute_next.ensures in
     run_refused _ _ (progress a.bench a.z.now a.p.now l.za l.cleared w) _ l.invariant c.if-words-i.false _ _
-    (refused a.bench a.z.now a.p.now l.za l.cleared w e.answer c.in-Refused.is) e.za_after
+    (refused a.bench a.z.now a.p.now l.za l.cleared w e.answer c.in-Err.is) e.za_after

@@ -2,19 +2,18 @@
 use mathlib.Core.Path.{◌≡◌, ◌∙◌, sym}
 use mathlib.Core.List.{[]}
 use mathlib.Core.Option.{none, some}
+use Rattle.std.specs.Prelude.{Ok, Result}
 use Rattle.isa.specs.Refusals.{first_failure}
 use Rattle.isa.specs.Answers.{describe}
 use Rattle.machine.specs.Execution.{word_tests}
 use Rattle.machine.proofs.Tests.{admit_accepted, admit_refused}
 use Prim.Native.Nat.{ℕ}
-use Rattle.isa.specs.declared.Decoded.{Decoded}
-use Rattle.isa.specs.declared.Decoded.TheVariants.{Accepted}
 use Rattle.isa.specs.declared.Instruction.{Instruction}
 use Rattle.isa.specs.Answers.{decided}
 use Rattle.machine.specs.declared.Bench.{Bench}
 use Rattle.machine.proofs.reversal.exchange_word.Goals as goal
 
-admitted : (b : Bench) (w : ℕ) {r : Decoded} {i : Instruction} → r ≡ decided (first_failure (word_tests b w)) (describe w) → r ≡ Accepted i
+admitted : (b : Bench) (w : ℕ) {r : Result Instruction Refusal} {i : Instruction} → r ≡ decided (first_failure (word_tests b w)) (describe w) → r ≡ Ok i
     → (first_failure (word_tests b w) ≡ none) × (describe w ≡ some i)
 admitted b w p q = admit_accepted b w [] _ (sym q ∙ p)
 
@@ -23,15 +22,15 @@ admit-requires c = c.requires
 
 pub returns-then-has_opposite : goal.returns-then-has_opposite
 returns-then-has_opposite c =
-    let (f, d) = admitted c.args.bench c.args.word c.admit.ensures c.in-Accepted.is in
+    let (f, d) = admitted c.args.bench c.args.word c.admit.ensures c.in-Ok.is in
     rw (f, d, sym c.has_opposite.ensures ∙ c.if-has_opposite.true) c.flip_s.ensures
 
-pub returns-in-Refused : goal.returns-in-Refused
-returns-in-Refused c =
+pub returns-in-Err : goal.returns-in-Err
+returns-in-Err c =
     let a = c.args in
-    rw (admit_refused a.bench a.word [] _ (sym c.in-Refused.is ∙ c.admit.ensures))
+    rw (admit_refused a.bench a.word [] _ (sym c.in-Err.is ∙ c.admit.ensures))
 
 pub returns-else-has_opposite : goal.returns-else-has_opposite
 returns-else-has_opposite c =
-    let (f, d) = admitted c.args.bench c.args.word c.admit.ensures c.in-Accepted.is in
+    let (f, d) = admitted c.args.bench c.args.word c.admit.ensures c.in-Ok.is in
     rw (f, d, sym c.has_opposite.ensures ∙ c.if-has_opposite.false)

@@ -2,8 +2,8 @@
 use mathlib.Core.Path.{◌∙◌}
 use Rattle.reader.proofs.line.decide.Goals as goal
 
-pub returns-in-Passed : goal.returns-in-Passed
-returns-in-Passed c = c.if_spelt.ensures ∙ rw c.in-Passed.is
+pub returns-in-Ok : goal.returns-in-Ok
+returns-in-Ok c = c.if_spelt.ensures ∙ rw c.in-Ok.is
 
-pub returns-in-Refused : goal.returns-in-Refused
-returns-in-Refused c = c.if_spelt-in-Refused.ensures ∙ rw c.in-Refused.is
+pub returns-in-Err : goal.returns-in-Err
+returns-in-Err c = c.if_spelt-in-Err.ensures ∙ rw c.in-Err.is

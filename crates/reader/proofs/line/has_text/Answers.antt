@@ -7,14 +7,14 @@ use Rattle.reader.proofs.line.has_text.Goals as goal
 pub same-requires : goal.same-requires
 same-requires c =
     let p = c.print in
-    rw p.ensures.room_after (printed_fits _ _ _ (sym p.ensures.answer ∙ c.in-Length.is))
+    rw p.ensures.room_after (printed_fits _ _ _ (sym p.ensures.answer ∙ c.in-Ok.is))
 
-pub returns-in-Length : goal.returns-in-Length
-returns-in-Length c =
+pub returns-in-Ok : goal.returns-in-Ok
+returns-in-Ok c =
     let p = c.print in
-    c.same.ensures ∙ rw p.ensures.room_after (printed-same _ _ _ (sym p.ensures.answer ∙ c.in-Length.is) _)
+    c.same.ensures ∙ rw p.ensures.room_after (printed-same _ _ _ (sym p.ensures.answer ∙ c.in-Ok.is) _)
 
-pub returns-in-Refused : goal.returns-in-Refused
-returns-in-Refused c =
+pub returns-in-Err : goal.returns-in-Err
+returns-in-Err c =
     let p = c.print in
-    refused_unlisted _ _ _ _ (omega arith) (sym p.ensures.answer ∙ c.in-Refused.is)
+    refused_unlisted _ _ _ _ (omega arith) (sym p.ensures.answer ∙ c.in-Err.is)
