@@ -25,23 +25,21 @@ packed value missing refusal = value * 65536 + missing * 256 + refusal
 abbrev pub answer : ℕ → Option Refusal → ℕ
 answer value o = packed value (refusal_missing o) (refusal_number o)
 
+-- a number or a refusal
+abbrev pub packed_result : Result ℕ Refusal → ℕ
+packed_result a = answer (value_in a) (refusal_in a)
+
 -- ---- decode
 abbrev pub decode_call : ℕ → ℕ → ℕ
 decode_call flags w = answer 0 (decode_refusal flags w)
 
 -- ---- print
-abbrev pub packed_printed : Result ℕ Refusal → ℕ
-packed_printed a = answer (value_in a) (refusal_in a)
-
 abbrev pub print_call : ℕ → ℕ → ℕ → ℕ
-print_call flags w room = packed_printed (print_of flags w room)
+print_call flags w room = packed_result (print_of flags w room)
 
 -- ---- read
-abbrev pub packed_reading : Result ℕ Refusal → ℕ
-packed_reading a = answer (value_in a) (refusal_in a)
-
 abbrev pub read_call : ℕ → Text → ℕ
-read_call flags t = packed_reading (read_of flags t)
+read_call flags t = packed_result (read_of flags t)
 
 -- ---- encode: the description that the arguments ask for; tile elements of other than 4 or 8 bytes, or other than 2 or 4
 -- products, ask for none
@@ -54,18 +52,29 @@ operation bytes products u0 u1 subtract =
 
 abbrev pub asked_predicated : ℕ → ℕ → Bool → Bool → Bool → ℕ → ℕ → ℕ → ℕ → ℕ → Instruction
 asked_predicated bytes products u0 u1 subtract tile pn pm zn zm =
-    Predicated (operation bytes products u0 u1 subtract) (record { 0 = tile }) (record { 0 = pn }) (record { 0 = pm }) (record { 0 = zn }) (record { 0 = zm })
+    Predicated
+    (record {
+      op = operation bytes products u0 u1 subtract;
+      tile = record { 0 = tile };
+      pn = record { 0 = pn };
+      pm = record { 0 = pm };
+      zn = record { 0 = zn };
+      zm = record { 0 = zm };
+    })
 
 abbrev pub asked_quarter : ℕ → ℕ → Bool → Bool → Bool → ℕ → ℕ → Bool → ℕ → Bool → Instruction
 asked_quarter bytes products u0 u1 subtract tile first first_pair second second_pair =
-    Quarter (operation bytes products u0 u1 subtract) (record { 0 = tile }) (source first_pair first) (source second_pair second)
-
-abbrev pub packed_encoded : Result ℕ Refusal → ℕ
-packed_encoded a = answer (value_in a) (refusal_in a)
+    Quarter
+    (record {
+      op = operation bytes products u0 u1 subtract;
+      tile = record { 0 = tile };
+      first = source first_pair first;
+      second = source second_pair second;
+    })
 
 abbrev pub encode_call : Option Instruction → ℕ
 encode_call none = answer 0 (some OutOfRange)
-encode_call (some i) = packed_encoded (encode_of i)
+encode_call (some i) = packed_result (encode_of i)
 
 abbrev pub predicated_call : ℕ → ℕ → Bool → Bool → Bool → ℕ → ℕ → ℕ → ℕ → ℕ → ℕ
 predicated_call bytes products u0 u1 subtract tile pn pm zn zm =

@@ -11,6 +11,8 @@ use Rattle.reader.specs.Answers.{read_number, read_missing, read_word}
 use Rattle.machine.specs.Claims.{execute_number, execute_missing, run_number, run_missing, run_count}
 use Rattle.machine.specs.Machine.{Machine}
 use Rattle.machine.specs.declared.Bench.{Bench}
+use Rattle.isa.specs.declared.Refusal.{Refusal}
+use Rattle.capture.specs.declared.Contents.{Contents}
 use Rattle.capture.specs.Format.{Capture, modes}
 use Rattle.capture.specs.Outcomes.{write_of}
 use Rattle.birdaghol.specs.Calls.{decode_call, print_call, read_call, asked_predicated, asked_quarter, predicated_call, quarter_call, zero_call, execute_call, run_call}
@@ -52,8 +54,8 @@ pub record ContentsUnpack (value : ℕ) (b : Bench) (words : ℕ) : Type 0 where
   pub vb_is : value / 64 % 1024 ≡ b.vb
   pub words_is : value / 65536 ≡ words
 
-abbrev pub CaptureReadUnpacks : ℕ → Result Ok Refusal → Type 0
-CaptureReadUnpacks n (Ok b words) = Unpacks n (contents_number b words) 0 0 × ContentsUnpack (contents_number b words) b words
+abbrev pub CaptureReadUnpacks : ℕ → Result Contents Refusal → Type 0
+CaptureReadUnpacks n (Ok c) = let v = contents_number c.bench c.words in Unpacks n v 0 0 × ContentsUnpack v c.bench c.words
 CaptureReadUnpacks n (Err r) = Unpacks n 0 0 (number r)
 
 -- ---- encode: the arguments that are in range; there are as many tiles of a size as an element has bytes

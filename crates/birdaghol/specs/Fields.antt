@@ -17,9 +17,9 @@ abbrev pub operation_numbers : Operation → List ℕ
 operation_numbers op = element_bytes op ∷ products_of op ∷ bit op.u0 ∷ bit op.u1 ∷ bit op.subtract ∷ []
 
 abbrev pub numbers_of : Instruction → List ℕ
-numbers_of (Predicated op tile pn pm zn zm) = 1 ∷ (operation_numbers op ++ (tile.0 ∷ pn.0 ∷ pm.0 ∷ zn.0 ∷ zm.0 ∷ []))
-numbers_of (Quarter op tile first second) =
-    2 ∷ (operation_numbers op ++ (tile.0 ∷ register first ∷ bit (is_pair first) ∷ register second ∷ bit (is_pair second) ∷ []))
+numbers_of (Predicated p) = 1 ∷ (operation_numbers p.op ++ (p.tile.0 ∷ p.pn.0 ∷ p.pm.0 ∷ p.zn.0 ∷ p.zm.0 ∷ []))
+numbers_of (Quarter q) =
+    2 ∷ (operation_numbers q.op ++ (q.tile.0 ∷ register q.first ∷ bit (is_pair q.first) ∷ register q.second ∷ bit (is_pair q.second) ∷ []))
 numbers_of (Zero mask) = 3 ∷ mask ∷ 0 ∷ 0 ∷ 0 ∷ 0 ∷ 0 ∷ 0 ∷ 0 ∷ 0 ∷ 0 ∷ []
 
 -- of a word; none where the table does not list it

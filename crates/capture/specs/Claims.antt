@@ -5,7 +5,10 @@ use Rattle.machine.specs.declared.Bench.{Bench}
 use Rattle.machine.specs.Lists.{most_words}
 use Rattle.machine.specs.Claims.{Passes, FirstFive}
 use Rattle.capture.specs.Format.{Capture, capture_of, bytes_of_capture, Below, Legal, Holds, NoCapture}
-use Rattle.capture.specs.Outcomes.{write_of, room_written, over, Buffers, Fits, holding, contents_of, OtherVersion, Reads, longest, Roomy, read_number}
+use Rattle.isa.specs.Refusals.{number_in}
+use Rattle.isa.specs.declared.Refusal.{Refusal}
+use Rattle.capture.specs.declared.Contents.{Contents}
+use Rattle.capture.specs.Outcomes.{write_of, room_written, over, Buffers, Fits, holding, contents_of, OtherVersion, Reads, longest, Roomy}
 use Rattle.capture.specs.Faults.{Malformed}
 
 -- no two captures have the same bytes
@@ -13,15 +16,15 @@ abbrev pub OneCapture : Type 0
 OneCapture = (c d : Capture) → Legal c → Legal d → bytes_of_capture c ≡ bytes_of_capture d → c ≡ d
 
 -- ---- reading: which number, for every file
-pub record Answers (file : List ℕ) (b : Buffers) (r : Result Ok Refusal) : Type 0 where
-  pub gives_0 : (read_number r ≡ 0) ↔ (c : Capture) × Holds file c × Fits c b
-  pub gives_15 : (read_number r ≡ 15) ↔ OtherVersion file
-  pub gives_16 : (read_number r ≡ 16) ↔ (OtherVersion file → ⊥) × NoCapture file
-  pub gives_12 : (read_number r ≡ 12) ↔ (c : Capture) × Holds file c × (Fits c b → ⊥)
-  pub refused : (after : Buffers) → Reads file b r after → (read_number r ≡ 0 → ⊥) → after ≡ b
+pub record Answers (file : List ℕ) (b : Buffers) (r : Result Contents Refusal) : Type 0 where
+  pub gives_0 : (number_in r ≡ 0) ↔ (c : Capture) × Holds file c × Fits c b
+  pub gives_15 : (number_in r ≡ 15) ↔ OtherVersion file
+  pub gives_16 : (number_in r ≡ 16) ↔ (OtherVersion file → ⊥) × NoCapture file
+  pub gives_12 : (number_in r ≡ 12) ↔ (c : Capture) × Holds file c × (Fits c b → ⊥)
+  pub refused : (after : Buffers) → Reads file b r after → (number_in r ≡ 0 → ⊥) → after ≡ b
 
 abbrev pub EveryAnswer : Type 0
-EveryAnswer = (file : List ℕ) (b after : Buffers) (r : Result Ok Refusal) → Reads file b r after → Answers file b r
+EveryAnswer = (file : List ℕ) (b after : Buffers) (r : Result Contents Refusal) → Reads file b r after → Answers file b r
 
 -- what 16 stands for, of every list of bytes
 abbrev pub Faults : Type 0
@@ -29,7 +32,7 @@ Faults = (file : List ℕ) → Below 256 file → (OtherVersion file → ⊥) ×
 
 -- a file and buffers have one outcome
 abbrev pub OneOutcome : Type 0
-OneOutcome = (file : List ℕ) (b a a' : Buffers) (r r' : Result Ok Refusal) → Reads file b r a → Reads file b r' a' → (r ≡ r') × (a ≡ a')
+OneOutcome = (file : List ℕ) (b a a' : Buffers) (r r' : Result Contents Refusal) → Reads file b r a → Reads file b r' a' → (r ≡ r') × (a ≡ a')
 
 -- ---- writing: which number, for every capture and room
 module _ (c : Capture) where
@@ -64,7 +67,7 @@ pub record WrittenBack (c : Capture) (room : List ℕ) (n : ℕ) : Type 0 where
   pub whole : n ≡ length (bytes_of_capture c)
   pub file : take n (room_written c room) ≡ bytes_of_capture c
   pub rest : drop n (room_written c room) ≡ drop n room
-  pub back : (b after : Buffers) (r : Result Ok Refusal) → Reads (take n (room_written c room)) b r after → Fits c b → (r ≡ contents_of c) × (after ≡ holding c b)
+  pub back : (b after : Buffers) (r : Result Contents Refusal) → Reads (take n (room_written c room)) b r after → Fits c b → (r ≡ contents_of c) × (after ≡ holding c b)
 
 abbrev pub WriteThenRead : Type 0
 WriteThenRead = (c : Capture) (room : List ℕ) (n : ℕ) → Held c → write_of c (length room) ≡ Ok n → WrittenBack c room n
@@ -80,4 +83,4 @@ pub record WrittenAgain (file : List ℕ) (c : Capture) : Type 0 where
 
 abbrev pub ReadThenWrite : Type 0
 ReadThenWrite =
-    (file : List ℕ) (before after : Buffers) (b : Bench) (n : ℕ) → Reads file before (Ok b n) after → WrittenAgain file (in_buffers b n after)
+    (file : List ℕ) (before after : Buffers) (b : Bench) (n : ℕ) → Reads file before (Ok (record { bench = b; words = n })) after → WrittenAgain file (in_buffers b n after)

@@ -1,11 +1,12 @@
 -- What write and read answer, and what they leave in the buffers lent to them (document 02, C-20).
 use Rattle.std.specs.Prelude.{◌≡◌, List, [], ◌∷◌, ◌++◌, ℕ, ◌≤◌, ltb, length, drop, Err, Ok, Result}
 use Rattle.std.proofs.Math.Option.{Option, none, some}
-use Rattle.isa.specs.Refusals.{Test, first_failure, refusal_number}
+use Rattle.isa.specs.Refusals.{number_in, value_in, Test, first_failure}
 use Rattle.isa.specs.declared.Refusal.{Refusal}
 use Rattle.isa.specs.declared.Refusal.TheVariants.{Room, Version, Format}
 use Rattle.storage.specs.Sizes.{z_size, p_size, za_size}
 use Rattle.machine.specs.Lists.{most_words, start_tests}
+use Rattle.capture.specs.declared.Contents.{Contents}
 use Rattle.capture.specs.Format.{version, Capture, bytes_of_capture, Holds, NoCapture}
 
 -- ---- writing
@@ -61,8 +62,8 @@ pub record Fits (c : Capture) (b : Buffers) : Type 0 where
 abbrev pub holding : Capture → Buffers → Buffers
 holding c b = buffers (over c.words b.words) (over c.z b.z) (over c.p b.p) (over c.za b.za)
 
-abbrev pub contents_of : Capture → Result Ok Refusal
-contents_of c = Ok c.bench (length c.words)
+abbrev pub contents_of : Capture → Result Contents Refusal
+contents_of c = Ok (record { bench = c.bench; words = length c.words })
 
 -- a file of another version: some first byte, and not 1
 pub record OtherVersion (file : List ℕ) : Type 0 where
@@ -72,7 +73,7 @@ pub record OtherVersion (file : List ℕ) : Type 0 where
   pub other : first ≡ version → ⊥
 
 -- what read answers and leaves: the contents of the capture that the file is; or 15, 16, 12, and every buffer as it was
-pub data Reads (file : List ℕ) (before : Buffers) (r : Result Ok Refusal) (after : Buffers) : Type 0 where
+pub data Reads (file : List ℕ) (before : Buffers) (r : Result Contents Refusal) (after : Buffers) : Type 0 where
   contents : (c : Capture) → Holds file c → Fits c before → r ≡ contents_of c → after ≡ holding c before → Reads file before r after
   another : OtherVersion file → r ≡ Err Version → after ≡ before → Reads file before r after
   malformed : (OtherVersion file → ⊥) → NoCapture file → r ≡ Err Format → after ≡ before → Reads file before r after
@@ -90,27 +91,9 @@ longest = 336409
 abbrev pub Roomy : Buffers → Type 0
 Roomy b = (most_words ≤ length b.words) × (z_size 256 ≤ length b.z) × (p_size 256 ≤ length b.p) × (za_size 256 ≤ length b.za)
 
--- ---- the papers' numbers
-abbrev pub written_refusal : Result ℕ Refusal → Option Refusal
-written_refusal (Ok n) = none
-written_refusal (Err r) = some r
-
-abbrev pub written_number : Result ℕ Refusal → ℕ
-written_number a = refusal_number (written_refusal a)
-
-abbrev pub written_length : Result ℕ Refusal → ℕ
-written_length (Ok n) = n
-written_length (Err r) = 0
-
+-- ---- the papers' number of write's answer, and its value
 abbrev pub write_number : Capture → ℕ → ℕ
-write_number c room = written_number (write_of c room)
+write_number c room = number_in (write_of c room)
 
 abbrev pub write_length : Capture → ℕ → ℕ
-write_length c room = written_length (write_of c room)
-
-abbrev pub read_refusal : Result Ok Refusal → Option Refusal
-read_refusal (Ok b words) = none
-read_refusal (Err r) = some r
-
-abbrev pub read_number : Result Ok Refusal → ℕ
-read_number a = refusal_number (read_refusal a)
+write_length c room = value_in (write_of c room)

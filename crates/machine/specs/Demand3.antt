@@ -24,8 +24,9 @@ other_direction op = record { wide = op.wide; two_way = op.two_way; u0 = op.u0; 
 -- an instruction with add and subtract exchanged; ZERO has neither
 abbrev pub reversed : Option Instruction → Option Instruction
 reversed none = none
-reversed (some (Predicated op tile pn pm zn zm)) = some (Predicated (other_direction op) tile pn pm zn zm)
-reversed (some (Quarter op tile first second)) = some (Quarter (other_direction op) tile first second)
+reversed (some (Predicated p)) =
+    some (Predicated (record { op = other_direction p.op; tile = p.tile; pn = p.pn; pm = p.pm; zn = p.zn; zm = p.zm }))
+reversed (some (Quarter q)) = some (Quarter (record { op = other_direction q.op; tile = q.tile; first = q.first; second = q.second }))
 reversed (some (Zero m)) = some (Zero m)
 
 -- ---- tiles named and totals

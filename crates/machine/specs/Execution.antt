@@ -100,17 +100,7 @@ after m w = left_by m w (refusal_of m w)
 abbrev pub word_left : Machine → ℕ → Machine
 word_left m w = left_by m w (word_refusal m w)
 
--- the answer, its refusal, and the paper's number and sum
+-- the answer
 abbrev pub outcome : Option Refusal → Result Unit Refusal
-outcome none = (Ok tt)
+outcome none = Ok tt
 outcome (some r) = Err r
-
-abbrev pub outcome_refusal : Result Unit Refusal → Option Refusal
-outcome_refusal (Ok tt) = none
-outcome_refusal (Err r) = some r
-
-abbrev pub outcome_number : Result Unit Refusal → ℕ
-outcome_number a = refusal_number (outcome_refusal a)
-
-abbrev pub outcome_missing : Result Unit Refusal → ℕ
-outcome_missing a = refusal_missing (outcome_refusal a)

@@ -11,22 +11,22 @@ use Rattle.machine.specs.Operands.{predicated_outer, quarter_outer}
 -- the outer product that it is, if it is one
 abbrev pub outer_of : Option Instruction → Option OuterProduct
 outer_of none = none
-outer_of (some (Predicated op tile pn pm zn zm)) = some (predicated_outer op tile pn pm zn zm)
-outer_of (some (Quarter op tile first second)) = some (quarter_outer op tile first second)
+outer_of (some (Predicated p)) = some (predicated_outer p)
+outer_of (some (Quarter q)) = some (quarter_outer q)
 outer_of (some (Zero mask)) = none
 
 -- whether it is one
 abbrev pub is_outer : Option Instruction → Bool
 is_outer none = false
-is_outer (some (Predicated op tile pn pm zn zm)) = true
-is_outer (some (Quarter op tile first second)) = true
+is_outer (some (Predicated p)) = true
+is_outer (some (Quarter q)) = true
 is_outer (some (Zero mask)) = false
 
 -- the mask of 64-bit tiles whose rows it clears, if it clears any
 abbrev pub mask_of : Option Instruction → Option ℕ
 mask_of none = none
-mask_of (some (Predicated op tile pn pm zn zm)) = none
-mask_of (some (Quarter op tile first second)) = none
+mask_of (some (Predicated p)) = none
+mask_of (some (Quarter q)) = none
 mask_of (some (Zero mask)) = some mask
 
 -- the modes that it needs on
@@ -38,8 +38,8 @@ za_alone = record { streaming = false; za = true }
 
 abbrev pub modes_of : Option Instruction → Modes
 modes_of none = record { streaming = false; za = false }
-modes_of (some (Predicated op tile pn pm zn zm)) = both_modes
-modes_of (some (Quarter op tile first second)) = both_modes
+modes_of (some (Predicated p)) = both_modes
+modes_of (some (Quarter q)) = both_modes
 modes_of (some (Zero mask)) = za_alone
 
 -- whether add and subtract can be exchanged in it
@@ -53,8 +53,8 @@ pub record TileName : Type 0 where
 
 abbrev pub tile_named : Option Instruction → Option TileName
 tile_named none = none
-tile_named (some (Predicated op tile pn pm zn zm)) = some (record { E = element_bytes op; tile = tile.0 })
-tile_named (some (Quarter op tile first second)) = some (record { E = element_bytes op; tile = tile.0 })
+tile_named (some (Predicated p)) = some (record { E = element_bytes p.op; tile = p.tile.0 })
+tile_named (some (Quarter q)) = some (record { E = element_bytes q.op; tile = q.tile.0 })
 tile_named (some (Zero mask)) = none
 
 abbrev pub is_tile : ℕ → ℕ → Option TileName → Bool

@@ -5,6 +5,8 @@ use Rattle.isa.specs.declared.Tile.{Tile}
 use Rattle.isa.specs.declared.Vector.{Vector}
 use Rattle.isa.specs.declared.Predicate.{Predicate}
 use Rattle.isa.specs.declared.Operation.{Operation}
+use Rattle.isa.specs.declared.PredicatedProduct.{PredicatedProduct}
+use Rattle.isa.specs.declared.QuarterProduct.{QuarterProduct}
 use Rattle.isa.specs.declared.Source.{Source}
 use Rattle.isa.specs.declared.Source.TheVariants.{One, Pair}
 use Rattle.outer.specs.declared.Predication.TheVariants.{Unpredicated, By}
@@ -38,8 +40,8 @@ outer_product op tile first second = record {
   subtract = op.subtract;
 }
 
-abbrev pub predicated_outer : Operation → Tile → Predicate → Predicate → Vector → Vector → OuterProduct
-predicated_outer op tile pn pm zn zm = outer_product op tile (governed_operand zn pn op.u0) (governed_operand zm pm op.u1)
+abbrev pub predicated_outer : PredicatedProduct → OuterProduct
+predicated_outer p = outer_product p.op p.tile (governed_operand p.zn p.pn p.op.u0) (governed_operand p.zm p.pm p.op.u1)
 
-abbrev pub quarter_outer : Operation → Tile → Source → Source → OuterProduct
-quarter_outer op tile first second = outer_product op tile (halves_operand first op.u0) (halves_operand second op.u1)
+abbrev pub quarter_outer : QuarterProduct → OuterProduct
+quarter_outer q = outer_product q.op q.tile (halves_operand q.first q.op.u0) (halves_operand q.second q.op.u1)

@@ -3,6 +3,8 @@
 use Rattle.std.specs.Prelude.{Bool, true, false, not, cond, ◌&&◌, ◌||◌, [], ◌∷◌, ℕ, zero, suc, eqb, replicate, Err, Ok, Result}
 use Rattle.std.proofs.Math.Option.{Option, none, some}
 use Rattle.isa.specs.Answers.{describe, decode_of}
+use Rattle.isa.specs.declared.Instruction.{Instruction}
+use Rattle.isa.specs.declared.Refusal.{Refusal}
 use Rattle.storage.specs.Sizes.{z_size, p_size, za_size}
 use Rattle.storage.specs.Tile.{in_tile}
 use Rattle.outer.specs.declared.OuterProduct.{OuterProduct}

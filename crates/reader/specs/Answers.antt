@@ -2,7 +2,7 @@
 -- among all.
 use Rattle.std.specs.Prelude.{Bool, true, false, not, cond, ◌&&◌, List, [], ◌∷◌, ℕ, zero, suc, ◌^◌, eqb, Err, Ok, Result}
 use Rattle.std.proofs.Math.Option.{Option, none, some}
-use Rattle.isa.specs.Refusals.{refusal_number, refusal_missing, Test, first_failure}
+use Rattle.isa.specs.Refusals.{number_in, missing_beside, value_in, Test, first_failure}
 use Rattle.isa.specs.Answers.{describe, missing, absent, flags_test}
 use Rattle.isa.specs.declared.Refusal.{Refusal}
 use Rattle.isa.specs.declared.Refusal.TheVariants.{FeatureOff, NotText}
@@ -55,26 +55,12 @@ answered none none = Err NotText
 unfoldable pub read_of : ℕ → Text → Result ℕ Refusal
 read_of flags t = answered (first_failure (read_tests flags (word_with t))) (word_with t)
 
--- the refusal of an answer, and the paper's number, sum and value
-abbrev pub reading_refusal : Result ℕ Refusal → Option Refusal
-reading_refusal (Ok w) = none
-reading_refusal (Err r) = some r
-
-abbrev pub reading_number : Result ℕ Refusal → ℕ
-reading_number a = refusal_number (reading_refusal a)
-
-abbrev pub reading_missing : Result ℕ Refusal → ℕ
-reading_missing a = refusal_missing (reading_refusal a)
-
-abbrev pub reading_word : Result ℕ Refusal → ℕ
-reading_word (Ok w) = w
-reading_word (Err r) = 0
-
+-- the number, the sum and the word of that answer
 abbrev pub read_number : ℕ → Text → ℕ
-read_number flags t = reading_number (read_of flags t)
+read_number flags t = number_in (read_of flags t)
 
 abbrev pub read_missing : ℕ → Text → ℕ
-read_missing flags t = reading_missing (read_of flags t)
+read_missing flags t = missing_beside (read_of flags t)
 
 abbrev pub read_word : ℕ → Text → ℕ
-read_word flags t = reading_word (read_of flags t)
+read_word flags t = value_in (read_of flags t)

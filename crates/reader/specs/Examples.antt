@@ -1,6 +1,7 @@
 -- Reads as rows of one table: lines of every family, the order of the tests, and near misses of each kind.
 -- proofs/Examples.antt shows that each comes out so.
 use Rattle.std.specs.Prelude.{List, [], ◌∷◌, ℕ, Result}
+use Rattle.isa.specs.declared.Refusal.{Refusal}
 use Rattle.isa.specs.Refusals.{missing_beside, number_in, value_in}
 use Rattle.text.specs.Ascii.{ascii}
 use Rattle.text.specs.Spelling.{Text}

@@ -125,8 +125,16 @@ source_of pair n = source pair (cond pair (n - 1) n)
 abbrev pub outer_of : Operation → Scan → Instruction
 outer_of op s =
     cond s.predicated
-    (Predicated op (record { 0 = s.n0 }) (record { 0 = s.n1 }) (record { 0 = s.n2 }) (record { 0 = s.n3 }) (record { 0 = s.number }))
-    (Quarter op (record { 0 = s.n2 }) (source_of s.earlier s.n3) (source_of s.pair s.number))
+    (Predicated
+    (record {
+      op = op;
+      tile = record { 0 = s.n0 };
+      pn = record { 0 = s.n1 };
+      pm = record { 0 = s.n2 };
+      zn = record { 0 = s.n3 };
+      zm = record { 0 = s.number };
+    }))
+    (Quarter (record { op = op; tile = record { 0 = s.n2 }; first = source_of s.earlier s.n3; second = source_of s.pair s.number }))
 
 -- halfwords on a 32-bit tile are 2-way
 abbrev pub outer_guess : Text → Scan → Instruction

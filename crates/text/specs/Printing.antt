@@ -1,7 +1,7 @@
 -- What print answers and what it leaves in the room (document 01, "Text" and "Refusal numbers", and document 02, C-15).
 use Rattle.std.specs.Prelude.{List, [], ◌++◌, ℕ, length, drop, Err, Ok, Result}
 use Rattle.std.proofs.Math.Option.{Option, none, some}
-use Rattle.isa.specs.Refusals.{refusal_number, refusal_missing, Test, first_failure}
+use Rattle.isa.specs.Refusals.{number_in, missing_beside, value_in, Test, first_failure}
 use Rattle.isa.specs.Answers.{describe, room_tests}
 use Rattle.isa.specs.declared.Instruction.{Instruction}
 use Rattle.isa.specs.declared.Refusal.{Refusal}
@@ -35,27 +35,12 @@ filled (some r) t room = room
 unfoldable pub room_after : ℕ → ℕ → List ℕ → List ℕ
 room_after flags w room = filled (first_failure (print_tests flags w (length room))) (text_of w) room
 
--- the refusal of an answer, and the paper's number, sum and value
-abbrev pub printed_refusal : Result ℕ Refusal → Option Refusal
-printed_refusal (Ok n) = none
-printed_refusal (Err r) = some r
-
-abbrev pub printed_number : Result ℕ Refusal → ℕ
-printed_number a = refusal_number (printed_refusal a)
-
-abbrev pub printed_missing : Result ℕ Refusal → ℕ
-printed_missing a = refusal_missing (printed_refusal a)
-
-abbrev pub printed_length : Result ℕ Refusal → ℕ
-printed_length (Ok n) = n
-printed_length (Err r) = 0
-
--- and of print's answer, for a room of so many bytes
+-- the number, the sum and the length of print's answer, for a room of so many bytes
 abbrev pub print_number : ℕ → ℕ → ℕ → ℕ
-print_number flags w room = printed_number (print_of flags w room)
+print_number flags w room = number_in (print_of flags w room)
 
 abbrev pub print_missing : ℕ → ℕ → ℕ → ℕ
-print_missing flags w room = printed_missing (print_of flags w room)
+print_missing flags w room = missing_beside (print_of flags w room)
 
 abbrev pub print_length : ℕ → ℕ → ℕ → ℕ
-print_length flags w room = printed_length (print_of flags w room)
+print_length flags w room = value_in (print_of flags w room)

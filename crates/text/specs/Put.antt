@@ -1,6 +1,7 @@
 -- What putting a text on a line leaves, and what print does with the line: the words of its own contracts.
 use Rattle.std.specs.Prelude.{◌≡◌, cond, List, [], ◌∷◌, ◌++◌, ℕ, ◌+◌, ◌≤◌, eqb, ltb, length, take, drop, Err, Ok, Result}
 use Rattle.isa.specs.declared.Instruction.{Instruction}
+use Rattle.isa.specs.declared.Refusal.{Refusal}
 use Rattle.isa.specs.declared.Refusal.TheVariants.{Room}
 use Rattle.names.specs.declared.TileName.{TileName}
 use Rattle.names.specs.Lists.{name_of}

@@ -70,12 +70,12 @@ braced (t ∷ ts) = ascii "{ " ++ separated (t ∷ ts) ++ ascii " }"
 
 -- ---- the line of an instruction
 unfoldable pub spelling : Instruction → Text
-spelling (Predicated op tile pn pm zn zm) =
-    mnemonic (ascii "mop") op ++ ascii " "
+spelling (Predicated p) =
+    mnemonic (ascii "mop") p.op ++ ascii " "
     ++ separated
-    (tile_name (element_bytes op) tile ∷ predicate_name pn ∷ predicate_name pm
-    ∷ vector_name (source_bytes op) zn.0 ∷ vector_name (source_bytes op) zm.0 ∷ [])
-spelling (Quarter op tile first second) =
-    mnemonic (ascii "mop4") op ++ ascii " "
-    ++ separated (tile_name (element_bytes op) tile ∷ source_name (source_bytes op) first ∷ source_name (source_bytes op) second ∷ [])
+    (tile_name (element_bytes p.op) p.tile ∷ predicate_name p.pn ∷ predicate_name p.pm
+    ∷ vector_name (source_bytes p.op) p.zn.0 ∷ vector_name (source_bytes p.op) p.zm.0 ∷ [])
+spelling (Quarter q) =
+    mnemonic (ascii "mop4") q.op ++ ascii " "
+    ++ separated (tile_name (element_bytes q.op) q.tile ∷ source_name (source_bytes q.op) q.first ∷ source_name (source_bytes q.op) q.second ∷ [])
 spelling (Zero m) = ascii "zero " ++ braced (map name_text (names_of m))
