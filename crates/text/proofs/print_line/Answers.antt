@@ -9,9 +9,3 @@ returns-then-room-n c =
     let (p, q) = too_short c.args.i c.args.room.now (omega (arith, c.spell-n.ensures.ends)) in
     record { answer = p; room_after = q }
 
-pub returns : goal.returns
-returns c =
-    let s = c.spell-n in
-    let (p, q) =
-    long_enough c.args.i c.args.room.now s.new.line s.result (omega (arith, s.ensures.ends)) s.ensures.text c.if-room-n.false in
-    record { answer = p; room_after = c.copy.ensures ∙ q }
