@@ -1,5 +1,5 @@
 // A guess of the instruction that a line spells: right for every line that spells one, and of no use for any other.
-ghost use Rattle.std.specs.Prelude.{◌≡◌, ◌-◌};
+ghost use Rattle.std.specs.Prelude.{◌≡◌};
 ghost use Rattle.reader.specs.Guess.{fresh, number_after, shifted, marked, stepped, scanned, byte_at, one_sign, second_at, last_at, operation_of, source_of, outer_of, share, tiles_after, zero_mask, guess_of};
 
 use crate::Scan;
@@ -42,21 +42,14 @@ fn outer_of(op: Operation, s: Scan) -> Instruction
     }
 }
 
-// A source by the last number in it, which in a pair is that of the second register.
+// A source by the last number in it, which in a pair is that of the second register; no line of a pair ends in 0.
 fn source_of(pair: bool, n: u32) -> Source
     ensures { result ≡ source_of pair n }
 {
     if pair {
-        return isa::source_of(true, less_one(n));
+        return isa::source_of(true, n.saturating_sub(1));
     }
     isa::source_of(false, n)
-}
-
-// The number before n; 0 has none, and no line of a pair ends in it.
-fn less_one(n: u32) -> u32
-    ensures { result ≡ n - 1 }
-{
-    if n == 0 { 0 } else { n - 1 }
 }
 
 // The operation by its shape, its family and the letters of its name.
@@ -98,77 +91,55 @@ fn last_at(one: bool, predicated: bool) -> usize
 }
 
 // One walk for every outer product. No line can make a number overflow.
+#[tactic(auto, unfolding(crate::specs::Guess::scanned))]
 fn scan(line: &[u8]) -> Scan
     ensures { result ≡ scanned fresh line.now }
 {
-    let mut s = start();
-    let mut i = 0;
-    while i < line.len() {
-        s = step(s, line[i]);
-        i += 1;
+    let mut s = Scan::default();
+    for &b in line {
+        s = s.step(b);
     }
     s
 }
 
-fn start() -> Scan
-    ensures { result ≡ fresh }
-{
-    Scan {
-        wide: false,
-        half: false,
-        predicated: false,
-        n0: 0,
-        n1: 0,
-        n2: 0,
-        n3: 0,
-        number: 0,
-        earlier: false,
-        pair: false,
+impl Scan {
+    fn step(self, b: u8) -> Scan
+        ensures { result ≡ stepped self b }
+    {
+        if b == b',' {
+            return self.shift();
+        }
+        self.mark(b)
     }
-}
 
-fn step(s: Scan, b: u8) -> Scan
-    ensures { result ≡ stepped s b }
-{
-    if b == b',' {
-        return shift(s);
+    // The next operand begins.
+    fn shift(self) -> Scan
+        ensures { result ≡ shifted self }
+    {
+        Scan {
+            n0: self.n1,
+            n1: self.n2,
+            n2: self.n3,
+            n3: self.number,
+            number: 0,
+            earlier: self.pair,
+            pair: false,
+            ..self
+        }
     }
-    mark(s, b)
-}
 
-// The next operand begins.
-fn shift(s: Scan) -> Scan
-    ensures { result ≡ shifted s }
-{
-    Scan {
-        wide: s.wide,
-        half: s.half,
-        predicated: s.predicated,
-        n0: s.n1,
-        n1: s.n2,
-        n2: s.n3,
-        n3: s.number,
-        number: 0,
-        earlier: s.pair,
-        pair: false,
-    }
-}
-
-// A byte of the operand: d is a 64-bit tile's, h a halfword source's, a stroke a predicate's, a hyphen a pair's.
-fn mark(s: Scan, b: u8) -> Scan
-    ensures { result ≡ marked s b }
-{
-    Scan {
-        wide: (b == b'd') | s.wide,
-        half: (b == b'h') | s.half,
-        predicated: (b == b'/') | s.predicated,
-        n0: s.n0,
-        n1: s.n1,
-        n2: s.n2,
-        n3: s.n3,
-        number: number_after(s.number, b),
-        earlier: s.earlier,
-        pair: (b == b'-') | s.pair,
+    // A byte of the operand: d is a 64-bit tile's, h a halfword source's, a stroke a predicate's, a hyphen a pair's.
+    fn mark(self, b: u8) -> Scan
+        ensures { result ≡ marked self b }
+    {
+        Scan {
+            wide: (b == b'd') | self.wide,
+            half: (b == b'h') | self.half,
+            predicated: (b == b'/') | self.predicated,
+            number: number_after(self.number, b),
+            pair: (b == b'-') | self.pair,
+            ..self
+        }
     }
 }
 
@@ -176,22 +147,15 @@ fn mark(s: Scan, b: u8) -> Scan
 fn number_after(n: u32, b: u8) -> u32
     ensures { result ≡ number_after n b }
 {
-    if b == b'z' {
-        return 0;
+    match b {
+        b'z' | b'p' => 0,
+        b'0'..=b'9' => n % 10 * 10 + (b - b'0') as u32,
+        _ => n,
     }
-    if b == b'p' {
-        return 0;
-    }
-    if b < b'0' {
-        return n;
-    }
-    if b'9' < b {
-        return n;
-    }
-    n % 10 * 10 + (b - b'0') as u32
 }
 
 // The mask of a ZERO's names: each adds its 64-bit tiles.
+#[tactic(auto, unfolding(crate::specs::Guess::tiles_from))]
 fn mask_of(line: &[u8]) -> u8
     ensures { result ≡ zero_mask line.now }
 {
@@ -200,11 +164,9 @@ fn mask_of(line: &[u8]) -> u8
     }
     let mut mask = 0;
     let mut number = 0;
-    let mut i = 0;
-    while i < line.len() {
-        mask = tiles_after(mask, number, line[i]);
-        number = number_after(number, line[i]);
-        i += 1;
+    for &b in line {
+        mask = tiles_after(mask, number, b);
+        number = number_after(number, b);
     }
     mask
 }
@@ -232,5 +194,5 @@ fn share_of(b: u8) -> u32
 fn byte(line: &[u8], p: usize) -> u8
     ensures { result ≡ byte_at line.now p }
 {
-    if p < line.len() { line[p] } else { 0 }
+    line.get(p).copied().unwrap_or(0)
 }

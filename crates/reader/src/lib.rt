@@ -17,7 +17,7 @@ pub enum Reading {
 // What stands in an outer product's line, as far as it was read: whether a 64-bit tile, halfword elements or a predicate was
 // named; the numbers of the last five operands, in their order, so that three of them stand from n2 on; and whether the
 // last two are pairs.
-#[derive(Clone, Copy)]
+#[derive(Clone, Copy, Default)]
 pub(crate) struct Scan {
     wide: bool,
     half: bool,

@@ -61,15 +61,5 @@ fn same(room: &[u8], n: usize, line: &[u8]) -> bool
     requires { n ≤ length room.now }
     ensures { result ≡ same_text (take n room.now) line.now }
 {
-    if line.len() != n {
-        return false;
-    }
-    let mut i = 0;
-    while i < n {
-        if room[i] != line[i] {
-            return false;
-        }
-        i += 1;
-    }
-    true
+    &room[..n] == line
 }

@@ -1,8 +1,7 @@
 -- Texts put on a line one after the other are their concatenation put at once. Assumes nothing.
-use mathlib.Core.Path.{◌≡◌, ◌∙◌, sym, ap}
-use mathlib.Core.List.{List, [], ◌++◌, append_assoc, append-nil}
+use mathlib.Core.Path.{◌≡◌, ◌∙◌, ap}
+use mathlib.Core.List.{List, ◌++◌, append_assoc}
 use Prim.Native.Nat.{ℕ, ◌+◌, ◌≤◌}
-use native.Mathlib.Nat.{add-zero}
 use native.Mathlib.Omega.{arith}
 use lib.ListN.{take, length-append}
 use Rattle.text.specs.Spelling.{Text}
@@ -21,7 +20,3 @@ module _ {before line : List ℕ} {at next : ℕ} where
   -- the same text, and a larger bound
   pub put_as : {m n : ℕ} {s t : Text} → Put m before at line next s → s ≡ t → m ≤ n → Put n before at line next t
   put_as p e h = record { short = rw (← e) (omega arith); ends = rw (← e) p.ends; text = rw (← e) p.text }
-
--- nothing is put
-pub put_nothing : {n : ℕ} (line : List ℕ) (at : ℕ) → Put n line at line at []
-put_nothing line at = record { short = omega arith; ends = sym (add-zero at); text = sym (append-nil (take at line)) }

@@ -2,27 +2,18 @@
 use mathlib.Core.Path.{◌≡◌, ◌∙◌, sym, ap, refl}
 use mathlib.Core.Bool.{Bool, true, false, cond}
 use mathlib.Core.List.{List, [], ◌∷◌, ◌++◌, map, map-append, append_assoc, append-nil}
-use Prim.Native.Nat.{ℕ, zero, suc, ◌+◌, ◌<◌}
+use Prim.Native.Nat.{ℕ, zero, suc, ◌+◌}
 use native.Mathlib.Nat.{zero-add, add-zero}
 use native.Mathlib.Numerals.{add-one}
 use native.Mathlib.Omega.{arith}
-use lib.Dec.{eqb, ltb}
-use borrow.Author.Tests.{ltb-true, eq-eqb, ne_eqb}
+use lib.Dec.{eqb}
+use borrow.Author.Tests.{eq-eqb, ne_eqb}
 use lib.ListN.{length, length-append}
-use Rattle.isa.proofs.Tests.{below}
 use Rattle.names.specs.declared.TileName.{TileName}
 use Rattle.names.specs.Lists.{name_of, digit_at, names_from}
 use Rattle.text.specs.Ascii.{ascii}
-use Rattle.text.specs.Spelling.{Text, decimal, suffix, name_text, separated, further, braced}
-use Rattle.text.specs.Put.{listed, behind, shown}
-
-pub heading_text : (m t : Text) → m ++ (ascii " " ++ t) ≡ m ++ ascii " " ++ t
-heading_text m t = sym (append_assoc m (ascii " ") t)
-
-pub pair_text : (d e s : Text)
-    → ascii ", { z" ++ d ++ s ++ (ascii "-z" ++ e ++ s) ++ ascii " }"
-    ≡ ascii ", " ++ (ascii "{ " ++ (ascii "z" ++ d ++ s) ++ ascii "-" ++ (ascii "z" ++ e ++ s) ++ ascii " }")
-pair_text d e s = ap (λ (l : Text). ascii ", { z" ++ l ++ ascii " }") (sym (append_assoc (d ++ s) (ascii "-") (ascii "z" ++ e ++ s)))
+use Rattle.text.specs.Spelling.{Text, name_text, separated, further, braced}
+use Rattle.text.specs.Put.{listed, shown}
 
 pub predicated_text : (h t p q v w : Text)
     → h ++ t ++ (ascii ", " ++ p ++ (ascii ", " ++ q)) ++ (ascii ", " ++ v ++ (ascii ", " ++ w)) ≡ h ++ separated (t ∷ p ∷ q ∷ v ∷ w ∷ [])
@@ -85,19 +76,3 @@ zero-none (t ∷ ts) at e h = absurd (omega (arith, length-append (ascii " " ++ 
 pub zero-some : (ts : List Text) (at : ℕ) → at ≡ 6 + length (shown ts) → (at ≡ 6 → ⊥) → ascii "zero {" ++ shown ts ++ ascii " }" ≡ ascii "zero " ++ braced ts
 zero-some [] at e h = absurd (h e)
 zero-some (t ∷ ts) at e h = refl
-
--- a name behind what separates it
-pub name_behind : (first : Bool) (k : TileName) → behind (cond first (ascii " za") (ascii ", za")) k ≡ cond first (ascii " ") (ascii ", ") ++ name_text k
-name_behind first k = go first (eqb k.bytes 1) (decimal k.tile.0) (suffix k.bytes)
-  where
-    go : (first whole : Bool) (d s : Text)
-        → cond whole (cond first (ascii " za") (ascii ", za")) (cond first (ascii " za") (ascii ", za") ++ d ++ s)
-        ≡ cond first (ascii " ") (ascii ", ") ++ cond whole (ascii "za") (ascii "za" ++ d ++ s)
-    go true true d s = refl
-    go true false d s = refl
-    go false true d s = refl
-    go false false d s = refl
-
--- a digit's tile has a number of one digit
-pub tile_small : (d : ℕ) → d < 16 → (name_of d).tile.0 < 8
-tile_small d h = ltb-true _ 8 (below (λ (d : ℕ). ltb (name_of d).tile.0 8) 16 d refl h)

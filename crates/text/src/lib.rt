@@ -3,7 +3,7 @@
 
 mod line;
 
-ghost use Rattle.std.specs.Prelude.{◌≡◌, true, ◌++◌, ◌≤◌, length, take, drop};
+ghost use Rattle.std.specs.Prelude.{◌≡◌, true, length};
 ghost use Rattle.isa.specs.Table.{in_range};
 ghost use Rattle.text.specs.Printing.{print_of, room_after, printed_number, printed_missing, printed_length, print_number, print_missing, print_length};
 ghost use Rattle.text.specs.Put.{printed_in, filled_with};
@@ -42,18 +42,6 @@ fn print_line(i: Instruction, room: &mut [u8]) -> Printed
     if room.len() < n {
         return Printed::Refused(Refusal::Room);
     }
-    copy(&text, n, room);
+    room[..n].copy_from_slice(&text[..n]);
     Printed::Length(n)
-}
-
-// The first n bytes of text to the start of room.
-fn copy(text: &[u8], n: usize, room: &mut [u8])
-    requires { (n ≤ length text.now) × (n ≤ length room.old) }
-    ensures { room.new ≡ take n text.now ++ drop n room.old }
-{
-    let mut i = 0;
-    while i < n {
-        room[i] = text[i];
-        i += 1;
-    }
 }

@@ -84,10 +84,8 @@ fn put_names(line: &mut [u8], start: usize, list: u16) -> usize
     ensures { Put 32 line.old start line.new result (shown (map name_text (names_in list))) }
 {
     let mut at = start;
-    let mut i: u32 = 0;
-    while i < 4 {
+    for i in 0_u32..4 {
         at = put_listed(line, at, (list >> (4 * i)) % 16);
-        i += 1;
     }
     at
 }
@@ -241,10 +239,7 @@ fn put(line: &mut [u8], at: usize, text: &[u8]) -> usize
     requires { at + length text.now ≤ length line.old }
     ensures { Put (length text.now) line.old at line.new result text.now }
 {
-    let mut i = 0;
-    while i < text.len() {
-        line[at + i] = text[i];
-        i += 1;
-    }
-    at + text.len()
+    let end = at + text.len();
+    line[at..end].copy_from_slice(text);
+    end
 }
