@@ -1,6 +1,7 @@
 -- Where a listing stands between two pieces of its input, what is written for a piece and at the end, and how much of a piece a
 -- room takes.
 use Rattle.std.specs.Prelude.{ℕ, ◌+◌, ◌-◌, ◌*◌, ◌/◌, ◌%◌, ◌^◌, min, List, [], ◌∷◌, ◌++◌, length, take, drop, nat_lt, slice_index, Result}
+use Rattle.isa.specs.declared.Refusal.{Refusal}
 use Rattle.isa.specs.Refusals.{Test, first_failure, missing_beside, number_in, value_in}
 use Rattle.isa.specs.declared.Refusal.TheVariants.{Room}
 use Rattle.text.specs.Spelling.{Text}

@@ -9,6 +9,7 @@ use native.Mathlib.Omega.{arith}
 use lib.Dec.{eqb, ltb}
 use borrow.Author.Tests.{lt-ltb, le-ltb, eq-eqb, ne_eqb, ltb-true, ltb-false, eqb-true, eqb-false}
 use Rattle.std.specs.Prelude.{Err, Ok, Result}
+use Rattle.isa.specs.declared.Instruction.{Instruction}
 use Rattle.isa.specs.Refusals.{refusal_number, refusal_missing, first_failure, or_else, missing_beside, number_in}
 use Rattle.isa.specs.Table.{all_flags}
 use Rattle.isa.specs.Answers.{describe, missing, absent, listing_tests, decode_of, decode_number}

@@ -1,4 +1,5 @@
 pub mod Below
+use Rattle.capture.specs.declared.Contents.{Contents}
 pub mod Tiles
 pub mod Known
 pub mod Carries

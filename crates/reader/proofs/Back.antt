@@ -8,6 +8,8 @@ use lib.Dec.{eqb, ltb}
 use borrow.Author.Tests.{le-ltb, ne_eqb, ltb-true, ltb-false, eqb-true}
 use Rattle.isa.specs.Table.{bit, source_bytes, is_formed, ranges, in_range, is_pair, register}
 use Rattle.isa.specs.declared.Operation.{Operation}
+use Rattle.isa.specs.declared.PredicatedProduct.{PredicatedProduct}
+use Rattle.isa.specs.declared.QuarterProduct.{QuarterProduct}
 use Rattle.isa.specs.declared.Tile.{Tile}
 use Rattle.isa.specs.declared.Predicate.{Predicate}
 use Rattle.isa.specs.declared.Vector.{Vector}
@@ -254,20 +256,20 @@ shaped op h = let (b, t) = go op.wide op.two_way h in record { bytes = b; two_wa
     go true true e = absurd (false≢true e)
 
 -- ---- each kind of instruction
-predicated_back : (op : Operation) (tile : Tile) (pn pm : Predicate) (zn zm : Vector) → in_range (Predicated op tile pn pm zn zm) ≡ true
-    → guess_of (spelling (Predicated op tile pn pm zn zm)) ≡ Predicated op tile pn pm zn zm
+predicated_back : (p : PredicatedProduct) → in_range (Predicated p) ≡ true → guess_of (spelling (Predicated p)) ≡ Predicated p
 unfolding spelling
-predicated_back op tile pn pm zn zm h =
-    let f = predicated_range op tile pn pm zn zm h in
-    let o = shaped op (every_all (ranges (Predicated op tile pn pm zn zm)) h).0 in
+predicated_back p h =
+    let op = p.op in
+    let f = predicated_range p h in
+    let o = shaped op (every_all (ranges (Predicated p)) h).0 in
     let k = halves op in
     rw o.bytes
     (outer_back false op _ _ _ (named false op _)
-    (first_operand (behind_name false) (tile_name (cond op.wide 8 4) tile) (tile_scan 0 op.wide tile (omega (arith, f)))
-    (behind (predicate_name pn) (predicate_scan _ pn (omega (arith, f)))
-    (behind (predicate_name pm) (predicate_scan _ pm (omega (arith, f)))
-    (behind (vector_name (bytes_by k) zn.0) (vector_scan _ k zn.0 (omega (arith, f)))
-    (behind (vector_name (bytes_by k) zm.0) (vector_scan _ k zm.0 (omega (arith, f)))
+    (first_operand (behind_name false) (tile_name (cond op.wide 8 4) p.tile) (tile_scan 0 op.wide p.tile (omega (arith, f)))
+    (behind (predicate_name p.pn) (predicate_scan _ p.pn (omega (arith, f)))
+    (behind (predicate_name p.pm) (predicate_scan _ p.pm (omega (arith, f)))
+    (behind (vector_name (bytes_by k) p.zn.0) (vector_scan _ k p.zn.0 (omega (arith, f)))
+    (behind (vector_name (bytes_by k) p.zm.0) (vector_scan _ k p.zm.0 (omega (arith, f)))
     none-behind)))))
     refl o.two_way_lem refl)
 
@@ -275,21 +277,21 @@ source_back : (r : Source) → source_of (is_pair r) (last_number r) ≡ r
 source_back (One v) = refl
 source_back (Pair v) = ap (λ (n : ℕ). Pair (record { 0 = n })) (omega arith)
 
-quarter_back : (op : Operation) (tile : Tile) (first second : Source) → in_range (Quarter op tile first second) ≡ true
-    → guess_of (spelling (Quarter op tile first second)) ≡ Quarter op tile first second
+quarter_back : (q : QuarterProduct) → in_range (Quarter q) ≡ true → guess_of (spelling (Quarter q)) ≡ Quarter q
 unfolding spelling
-quarter_back op tile first second h =
-    let f = quarter_range op tile first second h in
-    let o = shaped op (every_all (ranges (Quarter op tile first second)) h).0 in
+quarter_back q h =
+    let op = q.op in
+    let f = quarter_range q h in
+    let o = shaped op (every_all (ranges (Quarter q)) h).0 in
     let k = halves op in
     simp o.bytes
     (outer_back true op _ _ _ (named true op _)
-    (first_operand (behind_name true) (tile_name (cond op.wide 8 4) tile) (tile_scan 4 op.wide tile (omega (arith, f)))
-    (behind (source_name (bytes_by k) first) (source_scan _ k first (omega (arith, f)))
-    (behind (source_name (bytes_by k) second) (source_scan _ k second (omega (arith, f)))
+    (first_operand (behind_name true) (tile_name (cond op.wide 8 4) q.tile) (tile_scan 4 op.wide q.tile (omega (arith, f)))
+    (behind (source_name (bytes_by k) q.first) (source_scan _ k q.first (omega (arith, f)))
+    (behind (source_name (bytes_by k) q.second) (source_scan _ k q.second (omega (arith, f)))
     none-behind)))
     refl o.two_way_lem refl
-    ∙ rw (source_back first, source_back second))
+    ∙ rw (source_back q.first, source_back q.second))
 
 -- ---- ZERO: every mask's line, computed
 mask_back : (m : ℕ) → m < 256 → zero_mask (spelling (Zero m)) ≡ m
@@ -307,6 +309,6 @@ old_back m h = ap Zero (eqb-true _ m (below (λ (m : ℕ). eqb (zero_mask (old_l
 
 -- ---- every instruction in range
 pub guess_back : (i : Instruction) → in_range i ≡ true → guess_of (spelling i) ≡ i
-guess_back (Predicated op tile pn pm zn zm) h = predicated_back op tile pn pm zn zm h
-guess_back (Quarter op tile first second) h = quarter_back op tile first second h
+guess_back (Predicated p) h = predicated_back p h
+guess_back (Quarter q) h = quarter_back q h
 guess_back (Zero m) h = zero_back m h

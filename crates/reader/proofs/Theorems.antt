@@ -10,6 +10,7 @@ use lib.Dec.{eqb, ltb}
 use lib.ListN.{length, take}
 use borrow.Author.Tests.{eq-eqb, ne_eqb, eqb-true, eqb-false, lt-ltb, ltb-true, ltb-false}
 use Rattle.std.specs.Prelude.{Err, Ok, Result}
+use Rattle.isa.specs.declared.Refusal.{Refusal}
 use Rattle.isa.specs.Refusals.{missing_beside, number_in, value_in}
 use Rattle.isa.specs.Table.{all_flags, word_for}
 use Rattle.isa.specs.Claims.{FeaturesOn, HandsBack}

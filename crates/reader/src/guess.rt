@@ -3,7 +3,9 @@ ghost use Rattle.std.specs.Prelude.{◌≡◌};
 ghost use Rattle.reader.specs.Guess.{fresh, number_after, shifted, marked, stepped, scanned, byte_at, one_sign, second_at, last_at, operation_of, source_of, outer_of, share, tiles_after, zero_mask, guess_of};
 
 use crate::Scan;
-use isa::{Instruction, Operation, Predicate, Source, Tile, Vector};
+use isa::{
+    Instruction, Operation, Predicate, PredicatedProduct, QuarterProduct, Source, Tile, Vector,
+};
 
 // The length of `zero { za }`, the one name without a number; no other ZERO has it.
 const ALL_LENGTH: usize = 11;
@@ -23,23 +25,22 @@ pub(crate) fn guess(line: &[u8]) -> Instruction
 fn outer_of(op: Operation, s: Scan) -> Instruction
     ensures { result ≡ outer_of op s }
 {
-    let predicated = s.predicated;
-    if predicated {
-        return Instruction::Predicated {
+    if s.predicated {
+        return Instruction::Predicated(PredicatedProduct {
             op,
             tile: Tile(s.n0),
             pn: Predicate(s.n1),
             pm: Predicate(s.n2),
             zn: Vector(s.n3),
             zm: Vector(s.number),
-        };
+        });
     }
-    Instruction::Quarter {
+    Instruction::Quarter(QuarterProduct {
         op,
         tile: Tile(s.n2),
         first: source_of(s.earlier, s.n3),
         second: source_of(s.pair, s.number),
-    }
+    })
 }
 
 // A source by the last number in it, which in a pair is that of the second register; no line of a pair ends in 0.

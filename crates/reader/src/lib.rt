@@ -4,15 +4,7 @@
 mod guess;
 mod line;
 
-use isa::Refusal;
 pub use line::read;
-
-// The word of a line, or why there is none.
-#[derive(Clone, Copy)]
-pub enum Reading {
-    Word(u32),
-    Refused(Refusal),
-}
 
 // What stands in an outer product's line, as far as it was read: whether a 64-bit tile, halfword elements or a predicate was
 // named; the numbers of the last five operands, in their order, so that three of them stand from n2 on; and whether the

@@ -1,48 +1,29 @@
 // A line is taken for what it can only spell, and read if that spells the same line.
-ghost use Rattle.std.specs.Prelude.{◌≡◌, cond, ◌≤◌, length, take};
-ghost use Rattle.isa.specs.Answers.{checked_refusal};
-ghost use Rattle.reader.specs.Answers.{same_text, has_text, read_of, reading_number, reading_missing, reading_word, read_number, read_missing, read_word};
-ghost use Rattle.reader.specs.Guess.{verdict};
+ghost use Rattle.std.specs.Prelude.{◌≡◌, ◌≤◌, length, take};
+ghost use Rattle.isa.specs.Refusals.{number_in, missing_beside, value_in};
+ghost use Rattle.reader.specs.Answers.{same_text, has_text, read_of, read_number, read_missing, read_word};
 
-use crate::{Reading, guess};
-use isa::{Checked, Encoded, Refusal};
-use text::Printed;
+use crate::guess;
+use isa::Refusal;
 
 // The word that has this text, or why there is none: illegal flags, no listed word with it, a missing feature.
-pub fn read(flags: u32, line: &[u8]) -> Reading
+pub fn read(flags: u32, line: &[u8]) -> Result<u32, Refusal>
     ensures answer { result ≡ read_of flags line.now }
-    ensures number { reading_number result ≡ read_number flags line.now }
-    ensures missing { reading_missing result ≡ read_missing flags line.now }
-    ensures word { reading_word result ≡ read_word flags line.now }
+    ensures number { number_in result ≡ read_number flags line.now }
+    ensures missing { missing_beside result ≡ read_missing flags line.now }
+    ensures word { value_in result ≡ read_word flags line.now }
 {
     if !isa::flags_legal(flags) {
-        return Reading::Refused(Refusal::Flags);
+        return Err(Refusal::Flags);
     }
-    match isa::encode(guess::guess(line)) {
-        Encoded::Word(w) => decide(w, has_text(w, line), isa::check(flags, w)),
-        Encoded::Refused(_) => Reading::Refused(Refusal::NotText),
+    let Ok(w) = isa::encode(guess::guess(line)) else {
+        return Err(Refusal::NotText);
+    };
+    if !has_text(w, line) {
+        return Err(Refusal::NotText);
     }
-}
-
-// What is answered of a word that may have the line, and may be allowed.
-fn decide(w: u32, spelt: bool, checked: Checked) -> Reading
-    ensures { result ≡ verdict w spelt (checked_refusal checked) }
-{
-    match checked {
-        Checked::Passed => if_spelt(spelt, Reading::Word(w)),
-        Checked::Refused(r) => if_spelt(spelt, Reading::Refused(r)),
-    }
-}
-
-// Test 13, which comes before the word's own: an answer about a word whose text the line is.
-fn if_spelt(spelt: bool, answer: Reading) -> Reading
-    ensures { result ≡ cond spelt answer (Reading.Refused Refusal.NotText) }
-{
-    if spelt {
-        answer
-    } else {
-        Reading::Refused(Refusal::NotText)
-    }
+    isa::check(flags, w)?;
+    Ok(w)
 }
 
 // Whether a word is listed and has this text. No text is longer than the room.
@@ -51,8 +32,8 @@ fn has_text(w: u32, line: &[u8]) -> bool
 {
     let mut room = [0u8; 47];
     match text::print(isa::ALL_FLAGS, w, &mut room) {
-        Printed::Length(n) => same(&room, n, line),
-        Printed::Refused(_) => false,
+        Ok(n) => same(&room, n, line),
+        Err(_) => false,
     }
 }
 

@@ -119,15 +119,17 @@ line p q h = within (joined (joined p (literal (ascii " "))) q) (omega arith) (o
 -- no line is empty, and none of a description in range is longer than 47 bytes
 pub line-between : (i : Instruction) → in_range i ≡ true → OfLength 1 47 (spelling i)
 unfolding spelling
-line-between (Predicated op tile pn pm zn zm) h =
+line-between (Predicated p) h =
+    let op = p.op in
     let v = vector_between (source_bytes op) in
-    let operands = more (predicate_between pn.0) (more (predicate_between pm.0) (more (v zn.0) (more (v zm.0) (literal [])))) in
-    let t = short_tile (element_bytes op) tile.0 (omega (arith, predicated_range op tile pn pm zn zm h)) in
+    let operands = more (predicate_between p.pn.0) (more (predicate_between p.pm.0) (more (v p.zn.0) (more (v p.zm.0) (literal [])))) in
+    let t = short_tile (element_bytes op) p.tile.0 (omega (arith, predicated_range p h)) in
     line (mnemonic-between (ascii "mop") op (omega arith)) (joined t operands) (omega arith)
-line-between (Quarter op tile first second) h =
+line-between (Quarter q) h =
+    let op = q.op in
     let s = source-between (source_bytes op) in
-    let operands = more (s first) (more (s second) (literal [])) in
-    let t = short_tile (element_bytes op) tile.0 (omega (arith, quarter_range op tile first second h)) in
+    let operands = more (s q.first) (more (s q.second) (literal [])) in
+    let t = short_tile (element_bytes op) q.tile.0 (omega (arith, quarter_range q h)) in
     line (mnemonic-between (ascii "mop4") op (omega arith)) (joined t operands) (omega arith)
 line-between (Zero m) h =
     let f = few_names m (ltb-true m 256 (every_all (ranges (Zero m)) h).0) in

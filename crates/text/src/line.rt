@@ -6,7 +6,9 @@ ghost use Rattle.text.specs.Ascii.{ascii};
 ghost use Rattle.text.specs.Spelling.{spelling, name_text, decimal, signs, mnemonic, tile_name, predicate_name, vector_name, suffix, source_name};
 ghost use Rattle.text.specs.Put.{Put, first_name_at, listed, behind, shown};
 
-use isa::{Instruction, Operation, Predicate, Source, Tile, Vector};
+use isa::{
+    Instruction, Operation, Predicate, PredicatedProduct, QuarterProduct, Source, Tile, Vector,
+};
 use names::TileName;
 
 // Where ZERO's first name goes: the length of `zero {`.
@@ -18,51 +20,31 @@ pub(crate) fn spell(i: Instruction, line: &mut [u8]) -> usize
     ensures { Put 48 line.old 0 line.new result (spelling i) }
 {
     match i {
-        Instruction::Predicated {
-            op,
-            tile,
-            pn,
-            pm,
-            zn,
-            zm,
-        } => spell_predicated(line, op, tile, pn, pm, zn, zm),
-        Instruction::Quarter {
-            op,
-            tile,
-            first,
-            second,
-        } => spell_quarter(line, op, tile, first, second),
+        Instruction::Predicated(p) => spell_predicated(line, p),
+        Instruction::Quarter(q) => spell_quarter(line, q),
         Instruction::Zero(mask) => spell_zero(line, mask),
     }
 }
 
 // Mnemonic, tile, two predicates and two vectors.
-fn spell_predicated(
-    line: &mut [u8],
-    op: Operation,
-    tile: Tile,
-    pn: Predicate,
-    pm: Predicate,
-    zn: Vector,
-    zm: Vector,
-) -> usize
-    requires { (48 ≤ length line.old) × (in_range (Instruction.Predicated op tile pn pm zn zm) ≡ true) }
-    ensures { Put 48 line.old 0 line.new result (spelling (Instruction.Predicated op tile pn pm zn zm)) }
+fn spell_predicated(line: &mut [u8], p: PredicatedProduct) -> usize
+    requires { (48 ≤ length line.old) × (in_range (Instruction.Predicated p) ≡ true) }
+    ensures { Put 48 line.old 0 line.new result (spelling (Instruction.Predicated p)) }
 {
-    let a = put_heading(line, b"mop", op, tile);
-    let b = put_predicates(line, a, pn, pm);
-    put_vectors(line, b, isa::source_bytes(op), zn, zm)
+    let a = put_heading(line, b"mop", p.op, p.tile);
+    let b = put_predicates(line, a, p.pn, p.pm);
+    put_vectors(line, b, isa::source_bytes(p.op), p.zn, p.zm)
 }
 
 // Mnemonic, tile and two sources, each a register or a pair.
-fn spell_quarter(line: &mut [u8], op: Operation, tile: Tile, first: Source, second: Source) -> usize
-    requires { (48 ≤ length line.old) × (in_range (Instruction.Quarter op tile first second) ≡ true) }
-    ensures { Put 48 line.old 0 line.new result (spelling (Instruction.Quarter op tile first second)) }
+fn spell_quarter(line: &mut [u8], q: QuarterProduct) -> usize
+    requires { (48 ≤ length line.old) × (in_range (Instruction.Quarter q) ≡ true) }
+    ensures { Put 48 line.old 0 line.new result (spelling (Instruction.Quarter q)) }
 {
-    let bytes = isa::source_bytes(op);
-    let a = put_heading(line, b"mop4", op, tile);
-    let b = put_source(line, a, bytes, first);
-    put_source(line, b, bytes, second)
+    let bytes = isa::source_bytes(q.op);
+    let a = put_heading(line, b"mop4", q.op, q.tile);
+    let b = put_source(line, a, bytes, q.first);
+    put_source(line, b, bytes, q.second)
 }
 
 // The names between braces; with none, nothing stands between them.

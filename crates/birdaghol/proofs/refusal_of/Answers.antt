@@ -1,6 +1,7 @@
 -- `birdaghol::refusal_of` meets its contract, by the outcome. Assumes nothing.
 use mathlib.Core.Path.{◌∙◌, sym, ap}
 use Rattle.std.specs.Prelude.{Result}
+use Rattle.isa.specs.declared.Refusal.{Refusal}
 use Rattle.isa.specs.Refusals.{refusal_in}
 use Rattle.birdaghol.specs.Calls.{answer}
 use Rattle.birdaghol.proofs.refusal_of.Goals as goal

@@ -4,6 +4,8 @@ use mathlib.Core.Bool.{false}
 use mathlib.Core.Option.{Option, none, some}
 use Prim.Native.Nat.{ℕ}
 use Rattle.std.specs.Prelude.{Result}
+use Rattle.isa.specs.declared.Instruction.{Instruction}
+use Rattle.isa.specs.declared.Refusal.{Refusal}
 use Rattle.isa.specs.Answers.{decode_of}
 use Rattle.isa.proofs.Theorems.{accepted_in_range}
 use Rattle.machine.specs.Instructions.{TileName, tile_named}

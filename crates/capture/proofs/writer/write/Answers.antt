@@ -3,6 +3,7 @@ use mathlib.Core.Path.{◌≡◌, ◌∙◌, refl, sym}
 use native.Mathlib.Omega.{arith}
 use lib.ListN.{length}
 use Rattle.std.specs.Prelude.{Ok, Result}
+use Rattle.isa.specs.declared.Refusal.{Refusal}
 use Rattle.isa.specs.Refusals.{first_failure}
 use Rattle.machine.specs.Lists.{start_tests}
 use Rattle.machine.proofs.Tests.{outcome_done, outcome_refused}

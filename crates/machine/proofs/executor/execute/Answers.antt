@@ -2,6 +2,7 @@
 use mathlib.Core.Path.{◌≡◌, ◌∙◌, sym, ap}
 use mathlib.Core.Option.{some}
 use Rattle.std.specs.Prelude.{Result}
+use Rattle.isa.specs.declared.Refusal.{Refusal}
 use Rattle.isa.specs.Refusals.{missing_beside, number_in}
 use Rattle.machine.specs.Machine.{Machine, on}
 use Rattle.machine.specs.Execution.{outcome}

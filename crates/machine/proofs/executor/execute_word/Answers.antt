@@ -2,6 +2,8 @@
 use mathlib.Core.Path.{◌≡◌, ◌∙◌, sym, ap}
 use mathlib.Core.List.{[]}
 use Rattle.std.specs.Prelude.{Result}
+use Rattle.isa.specs.declared.Instruction.{Instruction}
+use Rattle.isa.specs.declared.Refusal.{Refusal}
 use Rattle.isa.specs.Refusals.{first_failure}
 use Rattle.isa.specs.Answers.{describe, decided}
 use Rattle.storage.specs.Tile.{masked}

@@ -3,6 +3,7 @@ use mathlib.Core.Path.{◌≡◌, ◌∙◌, sym}
 use mathlib.Core.List.{[]}
 use mathlib.Core.Option.{none, some}
 use Rattle.std.specs.Prelude.{Ok, Result}
+use Rattle.isa.specs.declared.Refusal.{Refusal}
 use Rattle.isa.specs.Refusals.{first_failure}
 use Rattle.isa.specs.Answers.{describe}
 use Rattle.machine.specs.Execution.{word_tests}

@@ -10,17 +10,17 @@ use native.Mathlib.Omega.{arith}
 use Rattle.text.proofs.line.spell_predicated.Goals as goal
 
 pub put_heading-a-requires : goal.put_heading-a-requires
-put_heading-a-requires c = let a = c.args in omega (arith, predicated_range a.op a.tile a.pn a.pm a.zn a.zm c.requires.1)
+put_heading-a-requires c = omega (arith, predicated_range c.args.p c.requires.1)
 
 pub put_predicates-b-requires : goal.put_predicates-b-requires
-put_predicates-b-requires c = let a = c.args in omega (arith, predicated_range a.op a.tile a.pn a.pm a.zn a.zm c.requires.1)
+put_predicates-b-requires c = omega (arith, predicated_range c.args.p c.requires.1)
 
 pub put_vectors-requires : goal.put_vectors-requires
-put_vectors-requires c = let a = c.args in omega (arith, predicated_range a.op a.tile a.pn a.pm a.zn a.zm c.requires.1)
+put_vectors-requires c = omega (arith, predicated_range c.args.p c.requires.1)
 
 pub returns : goal.returns
 returns c =
-    let a = c.args in
+    let a = c.args.p in
     let name = vector_name (source_bytes a.op) in
     put_as (c.put_heading-a.ensures then c.put_predicates-b.ensures then c.put_vectors.ensures)
     (rw c.source_bytes.ensures

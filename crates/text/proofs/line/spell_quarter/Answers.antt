@@ -10,17 +10,17 @@ use native.Mathlib.Omega.{arith}
 use Rattle.text.proofs.line.spell_quarter.Goals as goal
 
 pub put_heading-a-requires : goal.put_heading-a-requires
-put_heading-a-requires c = let a = c.args in omega (arith, quarter_range a.op a.tile a.first a.second c.requires.1)
+put_heading-a-requires c = omega (arith, quarter_range c.args.q c.requires.1)
 
 pub put_source-b-requires : goal.put_source-b-requires
-put_source-b-requires c = let a = c.args in omega (arith, quarter_range a.op a.tile a.first a.second c.requires.1)
+put_source-b-requires c = omega (arith, quarter_range c.args.q c.requires.1)
 
 pub put_source-requires : goal.put_source-requires
-put_source-requires c = let a = c.args in omega (arith, quarter_range a.op a.tile a.first a.second c.requires.1)
+put_source-requires c = omega (arith, quarter_range c.args.q c.requires.1)
 
 pub returns : goal.returns
 returns c =
-    let a = c.args in
+    let a = c.args.q in
     let name = source_name (source_bytes a.op) in
     put_as (c.put_heading-a.ensures then c.put_source-b.ensures then c.put_source.ensures)
     (rw c.source_bytes-bytes.ensures
