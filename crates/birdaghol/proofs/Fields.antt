@@ -29,8 +29,8 @@ use Rattle.birdaghol.specs.Fields.{numbers_of, numbers_in, field_count, describe
 
 -- every description has as many numbers
 pub numbers_length : (i : Instruction) → length (numbers_of i) ≡ field_count
-numbers_length (Predicated op tile pn pm zn zm) = refl
-numbers_length (Quarter op tile first second) = refl
+numbers_length (Predicated p) = refl
+numbers_length (Quarter q) = refl
 numbers_length (Zero mask) = refl
 
 -- ---- by decode's answer
@@ -81,10 +81,10 @@ sized_again op i = go op.wide op.two_way
     go false false = refl
 
 encoded_again : (i : Instruction) (rest : List ℕ) → encode_numbers (numbers_of i ++ rest) ≡ encode_call (some i)
-encoded_again (Predicated op tile pn pm zn zm) rest = rw (operation_again op) (ap encode_call (sized_again op (Predicated op tile pn pm zn zm)))
-encoded_again (Quarter op tile first second) rest =
-    rw (operation_again op, source_back first (register first) refl, source_back second (register second) refl)
-    (ap encode_call (sized_again op (Quarter op tile first second)))
+encoded_again (Predicated p) rest = rw (operation_again p.op) (ap encode_call (sized_again p.op (Predicated p)))
+encoded_again (Quarter q) rest =
+    rw (operation_again q.op, source_back q.first (register q.first) refl, source_back q.second (register q.second) refl)
+    (ap encode_call (sized_again q.op (Quarter q)))
 encoded_again (Zero mask) rest = refl
 
 -- what is known of the numbers of an accepted word

@@ -72,20 +72,20 @@ module _ (m : Machine) where
   action_fits : (r : Option Refusal) (d : Option Instruction) → Fit (action r (addition_of m d))
   action_fits (some r) d = tt
   action_fits none none = tt
-  action_fits none (some (Predicated op tile pn pm zn zm)) = element_width op
-  action_fits none (some (Quarter op tile first second)) = element_width op
+  action_fits none (some (Predicated p)) = element_width p.op
+  action_fits none (some (Quarter q)) = element_width q.op
   action_fits none (some (Zero mask)) = tt
 
   names-added : (d : Option Instruction) → tile_named d ≡ tile_of (addition_of m d)
   names-added none = refl
-  names-added (some (Predicated op tile pn pm zn zm)) = refl
-  names-added (some (Quarter op tile first second)) = refl
+  names-added (some (Predicated p)) = refl
+  names-added (some (Quarter q)) = refl
   names-added (some (Zero mask)) = refl
 
   outer_adds : (d : Option Instruction) → is_outer d ≡ true → (a : Addition) × (addition_of m d ≡ some a) × (mask_of d ≡ none)
   outer_adds none h = absurd (false≢true h)
-  outer_adds (some (Predicated op tile pn pm zn zm)) h = (_, refl, refl)
-  outer_adds (some (Quarter op tile first second)) h = (_, refl, refl)
+  outer_adds (some (Predicated p)) h = (_, refl, refl)
+  outer_adds (some (Quarter q)) h = (_, refl, refl)
   outer_adds (some (Zero mask)) h = absurd (false≢true h)
 
   action_does : (r : Option Refusal) (d : Option Instruction) → (none? r ≡ true → is_outer d ≡ true)
@@ -110,8 +110,8 @@ module _ (m : Machine) where
 
   action_reversed : (d : Option Instruction) → action none (addition_of m (reversed d)) ≡ undo (action none (addition_of m d))
   action_reversed none = refl
-  action_reversed (some (Predicated op tile pn pm zn zm)) = added_back (predicated_outer op tile pn pm zn zm)
-  action_reversed (some (Quarter op tile first second)) = added_back (quarter_outer op tile first second)
+  action_reversed (some (Predicated p)) = added_back (predicated_outer p)
+  action_reversed (some (Quarter q)) = added_back (quarter_outer q)
   action_reversed (some (Zero mask)) = refl
 
 -- what adds to a tile names it, and the other way round
@@ -138,12 +138,12 @@ action_gives E t row col none (some a) = refl
 
 -- a named tile is one that its width has
 tile_lt : (E t : ℕ) (i : Instruction) → in_range i ≡ true → names_tile E t (some i) ≡ true → t < E
-tile_lt E t (Predicated op tile pn pm zn zm) h a =
-    let (x, y) = both (eqb (element_bytes op) E) (eqb tile.0 t) a in
-    rw (← eqb-true (element_bytes op) E x, ← eqb-true tile.0 t y) (predicated_tile op tile pn pm zn zm h)
-tile_lt E t (Quarter op tile first second) h a =
-    let (x, y) = both (eqb (element_bytes op) E) (eqb tile.0 t) a in
-    rw (← eqb-true (element_bytes op) E x, ← eqb-true tile.0 t y) (quarter_tile op tile first second h)
+tile_lt E t (Predicated p) h a =
+    let (x, y) = both (eqb (element_bytes p.op) E) (eqb p.tile.0 t) a in
+    rw (← eqb-true (element_bytes p.op) E x, ← eqb-true p.tile.0 t y) (predicated_tile p h)
+tile_lt E t (Quarter q) h a =
+    let (x, y) = both (eqb (element_bytes q.op) E) (eqb q.tile.0 t) a in
+    rw (← eqb-true (element_bytes q.op) E x, ← eqb-true q.tile.0 t y) (quarter_tile q h)
 tile_lt E t (Zero mask) h a = absurd (false≢true a)
 
 pub named_tile : (E t w : ℕ) → w < 2 ^ 32 → names_tile E t (describe w) ≡ true → t < E
@@ -234,20 +234,20 @@ module _ (m : Machine) where
   -- ---- exchanged
   reversed-absent : (d : Option Instruction) → absent (reversed d) ≡ absent d
   reversed-absent none = refl
-  reversed-absent (some (Predicated op tile pn pm zn zm)) = refl
-  reversed-absent (some (Quarter op tile first second)) = refl
+  reversed-absent (some (Predicated p)) = refl
+  reversed-absent (some (Quarter q)) = refl
   reversed-absent (some (Zero mask)) = refl
 
   reversed-modes : (d : Option Instruction) → modes_of (reversed d) ≡ modes_of d
   reversed-modes none = refl
-  reversed-modes (some (Predicated op tile pn pm zn zm)) = refl
-  reversed-modes (some (Quarter op tile first second)) = refl
+  reversed-modes (some (Predicated p)) = refl
+  reversed-modes (some (Quarter q)) = refl
   reversed-modes (some (Zero mask)) = refl
 
   reversed_outer : (d : Option Instruction) → is_outer (reversed d) ≡ is_outer d
   reversed_outer none = refl
-  reversed_outer (some (Predicated op tile pn pm zn zm)) = refl
-  reversed_outer (some (Quarter op tile first second)) = refl
+  reversed_outer (some (Predicated p)) = refl
+  reversed_outer (some (Quarter q)) = refl
   reversed_outer (some (Zero mask)) = refl
 
   twin_answer : (w v : ℕ) → Twin m.bench.flags w v → refusal_of m v ≡ refusal_of m w

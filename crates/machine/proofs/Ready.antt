@@ -12,12 +12,15 @@ use Rattle.isa.specs.declared.Predicate.{Predicate}
 use Rattle.isa.specs.declared.Operation.{Operation}
 use Rattle.isa.specs.declared.Source.{Source}
 use Rattle.isa.specs.declared.Source.TheVariants.{One, Pair}
+use Rattle.isa.specs.declared.PredicatedProduct.{PredicatedProduct}
+use Rattle.isa.specs.declared.QuarterProduct.{QuarterProduct}
 use Rattle.isa.specs.declared.Instruction.TheVariants.{Predicated, Quarter}
 use Rattle.isa.proofs.Tests.{every_all}
 use Rattle.isa.proofs.Lines.{quarter_range}
 use Rattle.outer.specs.Products.{Shaped, bytes32, halves64, halves32, GoodOperand, Ready}
 use Rattle.outer.specs.declared.Operand.{Operand}
-use Rattle.machine.specs.Operands.{governed_operand, halves_operand, outer_product}
+use Rattle.outer.specs.declared.OuterProduct.{OuterProduct}
+use Rattle.machine.specs.Operands.{governed_operand, halves_operand, outer_product, predicated_outer, quarter_outer}
 use Rattle.machine.specs.Machine.{Machine}
 use Rattle.machine.specs.Claims.{BenchPasses}
 
@@ -32,11 +35,11 @@ shaped op h = go op.wide op.two_way h
     go true true e = absurd (false≢true e)
 
 -- and its tile
-pub predicated_tile : (op : Operation) (tile : Tile) (pn pm : Predicate) (zn zm : Vector) → in_range (Predicated op tile pn pm zn zm) ≡ true → tile.0 < element_bytes op
-predicated_tile op tile pn pm zn zm h = ltb-true _ _ (every_all (ranges (Predicated op tile pn pm zn zm)) h).1.0
+pub predicated_tile : (p : PredicatedProduct) → in_range (Predicated p) ≡ true → p.tile.0 < element_bytes p.op
+predicated_tile p h = ltb-true _ _ (every_all (ranges (Predicated p)) h).1.0
 
-pub quarter_tile : (op : Operation) (tile : Tile) (first second : Source) → in_range (Quarter op tile first second) ≡ true → tile.0 < element_bytes op
-quarter_tile op tile first second h = ltb-true _ _ (every_all (ranges (Quarter op tile first second)) h).1.0
+pub quarter_tile : (q : QuarterProduct) → in_range (Quarter q) ≡ true → q.tile.0 < element_bytes q.op
+quarter_tile q h = ltb-true _ _ (every_all (ranges (Quarter q)) h).1.0
 
 governed_good : (v : Vector) (p : Predicate) (unsigned : Bool) → v.0 < 32 → p.0 < 8 → GoodOperand (governed_operand v p unsigned)
 governed_good v p unsigned h k = record { low = h; high = h; predication = omega arith }
@@ -46,15 +49,15 @@ halves_good : (s : Source) (unsigned : Bool) → register s ≤ 30 → GoodOpera
 halves_good (One v) unsigned h = record { low = omega arith; high = omega arith; predication = tt }
 halves_good (Pair v) unsigned h = record { low = omega arith; high = omega arith; predication = tt }
 
-module _ (m : Machine) (fits : BenchPasses m) (op : Operation) (tile : Tile) where
+module _ (m : Machine) (fits : BenchPasses m) where
   -- what an update asks
-  abbrev Updates : Operand → Operand → Type 0
-  Updates first second =
-      Shaped (element_bytes op) (products_of op) × Ready (element_bytes op) m.bench.vb (outer_product op tile first second) m.z m.p
+  abbrev Updates : OuterProduct → Type 0
+  Updates o = Shaped o.element o.products × Ready o.element m.bench.vb o m.z m.p
 
   -- whatever its operands
-  ready : (first second : Operand) → is_formed op ≡ true → tile.0 < element_bytes op → GoodOperand first → GoodOperand second → Updates first second
-  ready first second e h f s = (
+  ready : (op : Operation) (tile : Tile) (first second : Operand) → is_formed op ≡ true → tile.0 < element_bytes op → GoodOperand first → GoodOperand second
+      → Updates (outer_product op tile first second)
+  ready op tile first second e h f s = (
     shaped op e,
     record {
       length_legal = fits.length_legal;
@@ -66,16 +69,14 @@ module _ (m : Machine) (fits : BenchPasses m) (op : Operation) (tile : Tile) whe
     },
   )
 
-  pub predicated_ready : (pn pm : Predicate) (zn zm : Vector) → in_range (Predicated op tile pn pm zn zm) ≡ true
-      → Updates (governed_operand zn pn op.u0) (governed_operand zm pm op.u1)
-  predicated_ready pn pm zn zm h =
-      let r = every_all (ranges (Predicated op tile pn pm zn zm)) h in
-      ready _ _ r.0 (predicated_tile op tile pn pm zn zm h) (governed_good zn pn op.u0 (omega (arith, ltb-true)) (omega (arith, ltb-true)))
-      (governed_good zm pm op.u1 (omega (arith, ltb-true)) (omega (arith, ltb-true)))
+  pub predicated_ready : (p : PredicatedProduct) → in_range (Predicated p) ≡ true → Updates (predicated_outer p)
+  predicated_ready p h =
+      let r = every_all (ranges (Predicated p)) h in
+      ready _ _ _ _ r.0 (predicated_tile p h) (governed_good p.zn p.pn p.op.u0 (omega (arith, ltb-true)) (omega (arith, ltb-true)))
+      (governed_good p.zm p.pm p.op.u1 (omega (arith, ltb-true)) (omega (arith, ltb-true)))
 
-  pub quarter_ready : (first second : Source) → in_range (Quarter op tile first second) ≡ true
-      → Updates (halves_operand first op.u0) (halves_operand second op.u1)
-  quarter_ready first second h =
-      let r = every_all (ranges (Quarter op tile first second)) h in
-      let q = quarter_range op tile first second h in
-      ready _ _ r.0 (quarter_tile op tile first second h) (halves_good first op.u0 (omega arith)) (halves_good second op.u1 (omega arith))
+  pub quarter_ready : (q : QuarterProduct) → in_range (Quarter q) ≡ true → Updates (quarter_outer q)
+  quarter_ready q h =
+      let r = every_all (ranges (Quarter q)) h in
+      let t = quarter_range q h in
+      ready _ _ _ _ r.0 (quarter_tile q h) (halves_good q.first q.op.u0 (omega arith)) (halves_good q.second q.op.u1 (omega arith))

@@ -103,13 +103,13 @@ module _ (m : Machine) (w : ℕ) where
 -- ---- what needs which mode in document 01: outer products both, ZERO ZA alone
 streaming_outer : (d : Option Instruction) → (modes_of d).streaming ≡ is_outer d
 streaming_outer none = refl
-streaming_outer (some (Predicated op tile pn pm zn zm)) = refl
-streaming_outer (some (Quarter op tile first second)) = refl
+streaming_outer (some (Predicated p)) = refl
+streaming_outer (some (Quarter q)) = refl
 streaming_outer (some (Zero mask)) = refl
 
 za-listed : (i : Instruction) → (modes_of (some i)).za ≡ true
-za-listed (Predicated op tile pn pm zn zm) = refl
-za-listed (Quarter op tile first second) = refl
+za-listed (Predicated p) = refl
+za-listed (Quarter q) = refl
 za-listed (Zero mask) = refl
 
 decoded_za : (flags w : ℕ) → decode_number flags w ≡ 0 → (modes_of (describe w)).za ≡ true

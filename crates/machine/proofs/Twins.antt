@@ -104,8 +104,8 @@ twin flags w h o = go (describe w) refl o
 
     go : (d : Option Instruction) → describe w ≡ d → is_outer d ≡ true → Twin flags w (flip_s w)
     go none d n = absurd (false≢true n)
-    go (some (Predicated op tile pn pm zn zm)) d n =
-        by _ _ d refl refl refl (λ t. row_flipped _ _ _ op.subtract (line_s predicates (shape_of op)) t (λ n e. rw e) refl refl)
-    go (some (Quarter op tile first second)) d n =
-        by _ _ d refl refl refl (λ t. row_flipped _ _ _ op.subtract (line_s quarters (shape_of op)) t (λ n e. rw e) refl refl)
+    go (some (Predicated p)) d n =
+        by _ _ d refl refl refl (λ t. row_flipped _ _ _ p.op.subtract (line_s predicates (shape_of p.op)) t (λ n e. rw e) refl refl)
+    go (some (Quarter q)) d n =
+        by _ _ d refl refl refl (λ t. row_flipped _ _ _ q.op.subtract (line_s quarters (shape_of q.op)) t (λ n e. rw e) refl refl)
     go (some (Zero m)) d n = absurd (false≢true n)

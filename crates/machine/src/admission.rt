@@ -11,34 +11,34 @@ ghost use Rattle.machine.specs.Execution.{bench_tests, mode_tests, word_tests, o
 ghost use Rattle.machine.specs.Lists.{next_tests};
 
 use crate::clearing::named_cleared;
-use crate::{Bench, Modes, Outcome};
-use isa::{Decoded, Instruction, Refusal};
+use crate::{Bench, Modes};
+use isa::{Instruction, Refusal};
 
 // Tests 1 to 5.
-pub(crate) fn check_bench(bench: Bench, z: usize, p: usize, za: usize) -> Outcome
+pub(crate) fn check_bench(bench: Bench, z: usize, p: usize, za: usize) -> Result<(), Refusal>
     ensures { result ≡ outcome (first_failure (bench_tests bench z p za)) }
 {
     if !isa::flags_legal(bench.flags) {
-        return Outcome::Refused(Refusal::Flags);
+        return Err(Refusal::Flags);
     }
     let vb = bench.vb;
     if !storage::is_legal(vb) {
-        return Outcome::Refused(Refusal::VectorLength);
+        return Err(Refusal::VectorLength);
     }
     if z != 32 * vb {
-        return Outcome::Refused(Refusal::ZLength);
+        return Err(Refusal::ZLength);
     }
     if p != 2 * vb {
-        return Outcome::Refused(Refusal::PLength);
+        return Err(Refusal::PLength);
     }
     if za != vb * vb {
-        return Outcome::Refused(Refusal::ZaLength);
+        return Err(Refusal::ZaLength);
     }
-    Outcome::Done
+    Ok(())
 }
 
 // Tests 7 to 10 of a word by itself: its instruction, or the refusal. Every tile counts as cleared.
-pub(crate) fn admit(bench: Bench, word: u32) -> Decoded
+pub(crate) fn admit(bench: Bench, word: u32) -> Result<Instruction, Refusal>
     requires { (bench.flags ≤ all_flags) × (legal bench.vb ≡ true) }
     ensures { result ≡ decided (first_failure (word_tests bench word)) (describe word) }
 {
@@ -46,35 +46,31 @@ pub(crate) fn admit(bench: Bench, word: u32) -> Decoded
 }
 
 // Tests 7 to 10 of a word of a run, then 14, by the mask of the 64-bit tiles that the run has cleared.
-pub(crate) fn admit_next(bench: Bench, cleared: u8, word: u32) -> Decoded
+pub(crate) fn admit_next(bench: Bench, cleared: u8, word: u32) -> Result<Instruction, Refusal>
     requires { (bench.flags ≤ all_flags) × (legal bench.vb ≡ true) }
     ensures { result ≡ decided (first_failure (next_tests bench (masked cleared) word)) (describe word) }
 {
-    match isa::decode(bench.flags, word) {
-        Decoded::Refused(r) => Decoded::Refused(r),
-        Decoded::Accepted(i) => match check_needs(bench, modes_of(i), named_cleared(cleared, i)) {
-            Outcome::Refused(r) => Decoded::Refused(r),
-            Outcome::Done => Decoded::Accepted(i),
-        },
-    }
+    let i = isa::decode(bench.flags, word)?;
+    check_needs(bench, modes_of(i), named_cleared(cleared, i))?;
+    Ok(i)
 }
 
 // Tests 9, 10 and 14.
-fn check_needs(bench: Bench, needs: Modes, cleared: bool) -> Outcome
+fn check_needs(bench: Bench, needs: Modes, cleared: bool) -> Result<(), Refusal>
     ensures { result ≡ outcome (first_failure (mode_tests bench needs ++ (record { fails = not cleared; gives = Refusal.NotCleared } ∷ []))) }
 {
     let streaming_off = needs.streaming & !bench.sm;
     let za_off = needs.za & !bench.za;
     if streaming_off {
-        return Outcome::Refused(Refusal::StreamingOff);
+        return Err(Refusal::StreamingOff);
     }
     if za_off {
-        return Outcome::Refused(Refusal::ZaOff);
+        return Err(Refusal::ZaOff);
     }
     if !cleared {
-        return Outcome::Refused(Refusal::NotCleared);
+        return Err(Refusal::NotCleared);
     }
-    Outcome::Done
+    Ok(())
 }
 
 // The modes that an instruction needs: an outer product both, ZERO ZA alone.
@@ -82,23 +78,7 @@ fn modes_of(i: Instruction) -> Modes
     ensures { result ≡ modes_of (some i) }
 {
     match i {
-        Instruction::Predicated {
-            op: _,
-            tile: _,
-            pn: _,
-            pm: _,
-            zn: _,
-            zm: _,
-        } => Modes {
-            streaming: true,
-            za: true,
-        },
-        Instruction::Quarter {
-            op: _,
-            tile: _,
-            first: _,
-            second: _,
-        } => Modes {
+        Instruction::Predicated(_) | Instruction::Quarter(_) => Modes {
             streaming: true,
             za: true,
         },

@@ -14,20 +14,8 @@ pub(crate) fn named_cleared(cleared: u8, i: Instruction) -> bool
     ensures { TellsCleared result cleared (tile_named (some i)) }
 {
     match i {
-        Instruction::Predicated {
-            op,
-            tile,
-            pn: _,
-            pm: _,
-            zn: _,
-            zm: _,
-        } => tile_cleared(cleared, op, tile),
-        Instruction::Quarter {
-            op,
-            tile,
-            first: _,
-            second: _,
-        } => tile_cleared(cleared, op, tile),
+        Instruction::Predicated(p) => tile_cleared(cleared, p.op, p.tile),
+        Instruction::Quarter(q) => tile_cleared(cleared, q.op, q.tile),
         Instruction::Zero(_) => true,
     }
 }
@@ -47,20 +35,7 @@ pub(crate) fn also_cleared(cleared: u8, i: Instruction) -> u8
     ensures { StandsFor result (λ row. masked cleared row || in_mask (mask_of (some i)) row) }
 {
     match i {
-        Instruction::Predicated {
-            op: _,
-            tile: _,
-            pn: _,
-            pm: _,
-            zn: _,
-            zm: _,
-        } => cleared,
-        Instruction::Quarter {
-            op: _,
-            tile: _,
-            first: _,
-            second: _,
-        } => cleared,
+        Instruction::Predicated(_) | Instruction::Quarter(_) => cleared,
         Instruction::Zero(mask) => cleared | mask,
     }
 }

@@ -28,16 +28,9 @@ pub struct Modes {
     pub za: bool,
 }
 
-// What comes of a word, or of a run after its last word.
-#[derive(Clone, Copy)]
-pub enum Outcome {
-    Done,
-    Refused(isa::Refusal),
-}
-
 // A run: how many words were executed, and how it ended.
 #[derive(Clone, Copy)]
 pub struct Ended {
     pub count: usize,
-    pub outcome: Outcome,
+    pub outcome: Result<(), isa::Refusal>,
 }

@@ -3,36 +3,26 @@ ghost use Rattle.std.specs.Prelude.{◌≡◌, true, ◌<◌};
 ghost use Rattle.isa.specs.Table.{in_range, register};
 ghost use Rattle.machine.specs.Operands.{governed_operand, halves_operand, outer_product, predicated_outer, quarter_outer};
 
-use isa::{Instruction, Operation, Predicate, Source, Tile, Vector};
+use isa::{
+    Instruction, Operation, Predicate, PredicatedProduct, QuarterProduct, Source, Tile, Vector,
+};
 use outer::{Operand, OuterProduct, Predication};
 
-pub(crate) fn predicated_outer(
-    op: Operation,
-    tile: Tile,
-    pn: Predicate,
-    pm: Predicate,
-    zn: Vector,
-    zm: Vector,
-) -> OuterProduct
-    ensures { result ≡ predicated_outer op tile pn pm zn zm }
+pub(crate) fn predicated_outer(p: PredicatedProduct) -> OuterProduct
+    ensures { result ≡ predicated_outer p }
 {
-    let first = governed_operand(zn, pn, op.u0);
-    let second = governed_operand(zm, pm, op.u1);
-    outer_product(op, tile, first, second)
+    let first = governed_operand(p.zn, p.pn, p.op.u0);
+    let second = governed_operand(p.zm, p.pm, p.op.u1);
+    outer_product(p.op, p.tile, first, second)
 }
 
-pub(crate) fn quarter_outer(
-    op: Operation,
-    tile: Tile,
-    first: Source,
-    second: Source,
-) -> OuterProduct
-    requires { in_range (Instruction.Quarter op tile first second) ≡ true }
-    ensures { result ≡ quarter_outer op tile first second }
+pub(crate) fn quarter_outer(q: QuarterProduct) -> OuterProduct
+    requires { in_range (Instruction.Quarter q) ≡ true }
+    ensures { result ≡ quarter_outer q }
 {
-    let low = halves_operand(first, op.u0);
-    let high = halves_operand(second, op.u1);
-    outer_product(op, tile, low, high)
+    let first = halves_operand(q.first, q.op.u0);
+    let second = halves_operand(q.second, q.op.u1);
+    outer_product(q.op, q.tile, first, second)
 }
 
 fn outer_product(op: Operation, tile: Tile, first: Operand, second: Operand) -> OuterProduct

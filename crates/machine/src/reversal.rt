@@ -11,16 +11,16 @@ ghost use Rattle.machine.specs.Execution.{word_tests, none?};
 ghost use Rattle.machine.specs.Exchange.{flip_s, exchanged};
 
 use crate::admission::{admit, check_bench};
-use crate::{Bench, Outcome};
-use isa::{Decoded, Instruction};
+use crate::Bench;
+use isa::Instruction;
 
 // The word with add and subtract exchanged, where it is one that `execute` accepts and that has an opposite; else the word.
 pub fn exchange(bench: Bench, z: &[u8], p: &[u8], za: &[u8], word: u32) -> u32
     ensures { result ≡ exchanged (on bench z.now p.now za.now) word }
 {
     match check_bench(bench, z.len(), p.len(), za.len()) {
-        Outcome::Refused(_) => word,
-        Outcome::Done => exchange_word(bench, word),
+        Ok(()) => exchange_word(bench, word),
+        Err(_) => word,
     }
 }
 
@@ -30,13 +30,8 @@ fn exchange_word(bench: Bench, word: u32) -> u32
     ensures { result ≡ cond (none? (first_failure (word_tests bench word)) && has_opposite (describe word)) (flip_s word) word }
 {
     match admit(bench, word) {
-        Decoded::Refused(_) => word,
-        Decoded::Accepted(i) => {
-            if has_opposite(i) {
-                return flip_s(word);
-            }
-            word
-        }
+        Ok(i) if has_opposite(i) => flip_s(word),
+        _ => word,
     }
 }
 
@@ -44,20 +39,7 @@ fn has_opposite(i: Instruction) -> bool
     ensures { result ≡ has_opposite (some i) }
 {
     match i {
-        Instruction::Predicated {
-            op: _,
-            tile: _,
-            pn: _,
-            pm: _,
-            zn: _,
-            zm: _,
-        } => true,
-        Instruction::Quarter {
-            op: _,
-            tile: _,
-            first: _,
-            second: _,
-        } => true,
+        Instruction::Predicated(_) | Instruction::Quarter(_) => true,
         Instruction::Zero(_) => false,
     }
 }

@@ -24,8 +24,8 @@ use Rattle.pairs.specs.Claims.{Bytes}
 module _ (m : Machine) where
   effect_bytes : Length m.bench.vb → Good m.bench.vb m.bench.vb m.za → (d : Option Instruction) → Bytes (effect m d).za
   effect_bytes l g none = g.bytes
-  effect_bytes l g (some (Predicated op tile pn pm zn zm)) = (add_to_good _ _ _ (sized _ l (element_width op)) _ _ m.za g).bytes
-  effect_bytes l g (some (Quarter op tile first second)) = (add_to_good _ _ _ (sized _ l (element_width op)) _ _ m.za g).bytes
+  effect_bytes l g (some (Predicated p)) = (add_to_good _ _ _ (sized _ l (element_width p.op)) _ _ m.za g).bytes
+  effect_bytes l g (some (Quarter q)) = (add_to_good _ _ _ (sized _ l (element_width q.op)) _ _ m.za g).bytes
   effect_bytes l g (some (Zero mask)) = (clear_good _ _ mask m.za g).bytes
 
   pub after_bytes : Bytes m.za → (w : ℕ) → Bytes (after m w).za

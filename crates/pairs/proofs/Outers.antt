@@ -61,8 +61,8 @@ outer_word m w h q = go (describe w) refl
 
     go : (d : Option Instruction) → describe w ≡ d → Outer m w
     go none e = absurd (false≢true (sym (ap is_outer e) ∙ q))
-    go (some (Predicated op tile pn pm zn zm)) e =
-        let (s, r) = predicated_ready m fits op tile pn pm zn zm (described_in_range w _ e) in
+    go (some (Predicated p)) e =
+        let (s, r) = predicated_ready m fits p (described_in_range w _ e) in
         record {
           accepts = h;
           outer = q;
@@ -73,8 +73,8 @@ outer_word m w h q = go (describe w) refl
           shaped = s;
           ready = r;
         }
-    go (some (Quarter op tile first second)) e =
-        let (s, r) = quarter_ready m fits op tile first second (described_in_range w _ e) in
+    go (some (Quarter q)) e =
+        let (s, r) = quarter_ready m fits q (described_in_range w _ e) in
         record {
           accepts = h;
           outer = q;

@@ -165,8 +165,8 @@ decoded_tile : (flags w : ℕ) (n : TileName) → tile_decoded (decode_of flags 
 decoded_tile flags w n h = go (decode_of flags w) refl h
   where
     outer : (i : Instruction) → tile_named (some i) ≡ some n → is_outer (some i) ≡ true
-    outer (Predicated op tile pn pm zn zm) e = refl
-    outer (Quarter op tile first second) e = refl
+    outer (Predicated p) e = refl
+    outer (Quarter q) e = refl
     outer (Zero mask) e = absurd (not_none e)
 
     go : (d : Result Instruction Refusal) → decode_of flags w ≡ d → tile_decoded d ≡ some n
@@ -183,8 +183,8 @@ tile_decoded_lem flags w h = go (decode_of flags w) refl h
 
 named_width : (d : Option Instruction) (n : TileName) → tile_named d ≡ some n → Width n.E
 named_width none n e = absurd (not_none e)
-named_width (some (Predicated op tile pn pm zn zm)) n e = subst (λ (k : TileName). Width k.E) (named_is (some (Predicated op tile pn pm zn zm)) refl e) (element_width op)
-named_width (some (Quarter op tile first second)) n e = subst (λ (k : TileName). Width k.E) (named_is (some (Quarter op tile first second)) refl e) (element_width op)
+named_width (some (Predicated p)) n e = subst (λ (k : TileName). Width k.E) (named_is (some (Predicated p)) refl e) (element_width p.op)
+named_width (some (Quarter q)) n e = subst (λ (k : TileName). Width k.E) (named_is (some (Quarter q)) refl e) (element_width q.op)
 named_width (some (Zero mask)) n e = absurd (not_none e)
 
 -- an accepted word has the number 0, and the other way round

@@ -11,6 +11,7 @@ use Rattle.isa.specs.declared.Refusal.{Refusal}
 use Rattle.isa.specs.declared.Refusal.TheVariants.{NotCleared}
 use Rattle.isa.specs.declared.Instruction.{Instruction}
 use Rattle.isa.proofs.Answers.{decode_passed}
+use Rattle.isa.proofs.Refusals.{handed_on}
 use Rattle.isa.proofs.Theorems.{described_is}
 use Rattle.storage.specs.Tile.{masked}
 use Rattle.machine.specs.declared.Modes.{Modes}
@@ -35,12 +36,9 @@ abbrev refusal : Bench → ℕ → ℕ → Option Refusal
 refusal b cleared w = first_failure (next_tests b (masked cleared) w)
 
 -- ---- a word that decode accepts
-module _ (b : Bench) (w : ℕ) {r : Result Instruction Refusal} {i : Instruction} (e : r ≡ decode_of b.flags w) (q : r ≡ Ok i) where
-  decoded : decode_of b.flags w ≡ Ok i
-  decoded = sym e ∙ q
-
+module _ (b : Bench) (w : ℕ) {i : Instruction} (e : Ok i ≡ decode_of b.flags w) where
   is_described : describe w ≡ some i
-  is_described = (decode_passed _ _ _ decoded).1
+  is_described = (decode_passed _ _ _ (sym e)).1
 
   -- what is left are the modes and the tile
   tested : (cleared : ℕ) {o : Result Unit Refusal} {n : Modes} {t : Bool} → b.flags ≤ all_flags → legal b.vb ≡ true
@@ -49,29 +47,29 @@ module _ (b : Bench) (w : ℕ) {r : Result Instruction Refusal} {i : Instruction
   tested cleared l v u m k =
       u
       ∙ ap₂ (λ (n : Modes) (t : Bool). outcome (first_failure (mode_tests b n ++ (record { fails = not t; gives = NotCleared } ∷ [])))) m (k b.vb v)
-      ∙ sym (ap outcome (word-accepted b w l (last b cleared (describe w)) _ decoded
+      ∙ sym (ap outcome (word-accepted b w l (last b cleared (describe w)) _ (sym e)
       ∙ ap (λ d. first_failure (mode_tests b (modes_of (some i)) ++ last b cleared d)) is_described))
 
 pub named_cleared-requires : goal.named_cleared-requires
-named_cleared-requires c = (described_is _ _ (search rules) (is_described c.args.bench c.args.word c.decode.ensures.answer c.in-Ok.is)).0
+named_cleared-requires c = (described_is _ _ (search rules) (is_described c.args.bench c.args.word c.in_ok-i.ensures.answer)).0
 
-pub returns-in-Err : goal.returns-in-Err
-returns-in-Err c =
+pub returns-in_err-i : goal.returns-in_err-i
+returns-in_err-i c =
     let w = c.args.word in
-    let f = word_refused c.args.bench w c.requires.0 (last c.args.bench c.args.cleared (describe w)) _ (sym c.decode.ensures.answer ∙ c.in-Err.is) in
-    sym (ap (λ o. decided o (describe w)) f)
+    let f = word_refused c.args.bench w c.requires.0 (last c.args.bench c.args.cleared (describe w)) _ (sym c.in_err-i.ensures.answer) in
+    handed_on c.from_residual.ensures.1 ∙ sym (ap (λ o. decided o (describe w)) f)
 
-pub returns-in-Err-check_needs : goal.returns-in-Err-check_needs
-returns-in-Err-check_needs c =
+pub returns-in_err-check_needs : goal.returns-in_err-check_needs
+returns-in_err-check_needs c =
     let a = c.args in
-    let t = tested a.bench a.word c.decode.ensures.answer c.in-Ok.is a.cleared c.requires.0 c.requires.1
-    c.check_needs.ensures c.modes_of.ensures c.named_cleared.ensures in
-    sym (ap (λ o. decided o (describe a.word)) (outcome_refused (refusal a.bench a.cleared a.word) _ (sym c.in-Err-check_needs.is ∙ t)))
+    let t = tested a.bench a.word c.in_ok-i.ensures.answer a.cleared c.requires.0 c.requires.1
+    c.in_err-check_needs.ensures c.modes_of.ensures c.named_cleared.ensures in
+    handed_on c.from_residual-in_err-check_needs.ensures.1
+    ∙ sym (ap (λ o. decided o (describe a.word)) (outcome_refused (refusal a.bench a.cleared a.word) _ t))
 
-pub returns-in-Ok : goal.returns-in-Ok
-returns-in-Ok c =
+pub returns : goal.returns
+returns c =
     let a = c.args in
-    let t = tested a.bench a.word c.decode.ensures.answer c.in-Ok.is a.cleared c.requires.0 c.requires.1
-    c.check_needs.ensures c.modes_of.ensures c.named_cleared.ensures in
-    sym (ap₂ decided (outcome_done (refusal a.bench a.cleared a.word) (sym c.in-Ok.is ∙ t))
-    (is_described a.bench a.word c.decode.ensures.answer c.in-Ok.is))
+    let t = tested a.bench a.word c.in_ok-i.ensures.answer a.cleared c.requires.0 c.requires.1
+    c.in_ok-check_needs.ensures c.modes_of.ensures c.named_cleared.ensures in
+    sym (ap₂ decided (outcome_done (refusal a.bench a.cleared a.word) t) (is_described a.bench a.word c.in_ok-i.ensures.answer))

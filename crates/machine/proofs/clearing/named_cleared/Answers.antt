@@ -6,14 +6,11 @@ use Rattle.machine.proofs.clearing.named_cleared.Goals as goal
 
 pub tile_cleared-requires : goal.tile_cleared-requires
 tile_cleared-requires c =
-    let i = c.in-Predicated in
-    predicated_tile i.op i.tile i.pn i.pm i.zn i.zm
-    (sym (ap in_range c.in-Predicated.is) ∙ c.requires)
+    predicated_tile c.in-Predicated.p (sym (ap in_range c.in-Predicated.is) ∙ c.requires)
 
 pub tile_cleared-requires-in-Quarter : goal.tile_cleared-requires-in-Quarter
 tile_cleared-requires-in-Quarter c =
-    let i = c.in-Quarter in
-    quarter_tile i.op i.tile i.first i.second (sym (ap in_range c.in-Quarter.is) ∙ c.requires)
+    quarter_tile c.in-Quarter.q (sym (ap in_range c.in-Quarter.is) ∙ c.requires)
 
 pub returns-in-Predicated : goal.returns-in-Predicated
 returns-in-Predicated c vb l = rw c.in-Predicated.is (c.tile_cleared.ensures vb l)

@@ -9,6 +9,7 @@ use Rattle.isa.specs.Refusals.{Test, first_failure}
 use Rattle.isa.specs.Answers.{describe}
 use Rattle.isa.specs.declared.Instruction.{Instruction}
 use Rattle.isa.specs.declared.Refusal.{Refusal}
+use Rattle.isa.proofs.Refusals.{handed_on}
 use Rattle.isa.proofs.Theorems.{described_is}
 use Rattle.storage.specs.Tile.{masked}
 use Rattle.machine.specs.Machine.{Machine, on}
@@ -28,9 +29,9 @@ last b cleared w = cleared_test b.vb (masked cleared) (describe w) ∷ []
 abbrev left : Machine → Option Refusal → Option Instruction → List ℕ
 left m o d = (unless o m (effect m d)).za
 
-admitted : (b : Bench) (cleared w : ℕ) {r : Result Instruction Refusal} {i : Instruction} → r ≡ decided (first_failure (next_tests b (masked cleared) w)) (describe w)
-    → r ≡ Ok i → (first_failure (next_tests b (masked cleared) w) ≡ none) × (describe w ≡ some i)
-admitted b cleared w p q = admit_accepted b w (last b cleared w) _ (sym q ∙ p)
+admitted : (b : Bench) (cleared w : ℕ) {i : Instruction} → Ok i ≡ decided (first_failure (next_tests b (masked cleared) w)) (describe w)
+    → (first_failure (next_tests b (masked cleared) w) ≡ none) × (describe w ≡ some i)
+admitted b cleared w p = admit_accepted b w (last b cleared w) _ p
 
 pub admit_next-requires : goal.admit_next-requires
 admit_next-requires c =
@@ -40,21 +41,21 @@ admit_next-requires c =
 pub perform-requires : goal.perform-requires
 perform-requires c = record {
   bench_passes = c.requires;
-  ranged = (described_is _ _ (search rules) (admitted c.args.bench c.args.cleared c.args.word c.admit_next.ensures c.in-Ok.is).1).0;
+  ranged = (described_is _ _ (search rules) (admitted c.args.bench c.args.cleared c.args.word c.in_ok-i.ensures).1).0;
 }
 
-pub returns-in-Err : goal.returns-in-Err
-returns-in-Err c =
+pub returns-in_err-i : goal.returns-in_err-i
+returns-in_err-i c =
     let a = c.args in
-    let r = sym c.in-Err.is ∙ c.admit_next.ensures in
+    let r = c.in_err-i.ensures in
     let f = admit_refused a.bench a.word (last a.bench a.cleared a.word) _ r in
-    record { answer = r; za_after = sym (ap (λ o. left (on a.bench a.z.now a.p.now a.za.now) o (describe a.word)) f) }
+    record { answer = handed_on c.from_residual.ensures.1 ∙ r; za_after = sym (ap (λ o. left (on a.bench a.z.now a.p.now a.za.now) o (describe a.word)) f) }
 
-pub returns-in-Ok : goal.returns-in-Ok
-returns-in-Ok c =
+pub returns : goal.returns
+returns c =
     let a = c.args in
-    let (f, d) = admitted a.bench a.cleared a.word c.admit_next.ensures c.in-Ok.is in
+    let (f, d) = admitted a.bench a.cleared a.word c.in_ok-i.ensures in
     record {
-      answer = sym c.in-Ok.is ∙ c.admit_next.ensures;
+      answer = c.in_ok-i.ensures;
       za_after = c.perform.ensures ∙ sym (ap₂ (left (on a.bench a.z.now a.p.now a.za.now)) f d);
     }

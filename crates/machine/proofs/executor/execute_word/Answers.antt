@@ -7,6 +7,7 @@ use Rattle.isa.specs.declared.Refusal.{Refusal}
 use Rattle.isa.specs.Refusals.{first_failure}
 use Rattle.isa.specs.Answers.{describe, decided}
 use Rattle.storage.specs.Tile.{masked}
+use Rattle.isa.proofs.Refusals.{handed_on}
 use Rattle.machine.specs.Machine.{Machine, on}
 use Rattle.machine.specs.Execution.{left_by, word_left, outcome}
 use Rattle.machine.specs.Lists.{next_tests}
@@ -28,20 +29,20 @@ left m w = ap (λ o. (left_by m w o).za) (tested_singly m.bench w)
 pub execute_next-requires : goal.execute_next-requires
 execute_next-requires c = c.requires
 
-pub returns-in-Err : goal.returns-in-Err
-returns-in-Err c =
+pub returns-in_err-execute_next : goal.returns-in_err-execute_next
+returns-in_err-execute_next c =
     let a = c.args in
-    let e = c.execute_next.ensures in
+    let e = c.in_err-execute_next.ensures in
     record {
-      answer = sym (ap outcome (admit_refused a.bench a.word [] _ (sym c.in-Err.is ∙ answered a.bench a.word e.answer)));
+      answer = handed_on c.from_residual.ensures.1 ∙ sym (ap outcome (admit_refused a.bench a.word [] _ (answered a.bench a.word e.answer)));
       za_after = e.za_after ∙ left (on a.bench a.z.now a.p.now a.za.now) a.word;
     }
 
-pub returns-in-Ok : goal.returns-in-Ok
-returns-in-Ok c =
+pub returns : goal.returns
+returns c =
     let a = c.args in
-    let e = c.execute_next.ensures in
+    let e = c.in_ok-execute_next.ensures in
     record {
-      answer = sym (ap outcome (admit_accepted a.bench a.word [] _ (sym c.in-Ok.is ∙ answered a.bench a.word e.answer)).0);
+      answer = sym (ap outcome (admit_accepted a.bench a.word [] _ (answered a.bench a.word e.answer)).0);
       za_after = e.za_after ∙ left (on a.bench a.z.now a.p.now a.za.now) a.word;
     }

@@ -11,19 +11,19 @@ update-requires c =
     let m = on c.args.bench c.args.z.now c.args.p.now c.args.za.now in
     let b = machine_passes m c.requires.bench_passes in
     let i = c.in-Predicated in
-    let (h, r) = predicated_ready m b i.op i.tile i.pn i.pm i.zn i.zm (sym (ap in_range i.is) ∙ c.requires.ranged) in
-    record { shaped = rw c.predicated_outer-o.ensures h; ready = rw c.predicated_outer-o.ensures r; za_len = b.za_sized }
+    let (h, r) = predicated_ready m b i.product (sym (ap in_range i.is) ∙ c.requires.ranged) in
+    record { shaped = rw c.predicated_outer.ensures h; ready = rw c.predicated_outer.ensures r; za_len = b.za_sized }
 
-pub quarter_outer-o-requires : goal.quarter_outer-o-requires
-quarter_outer-o-requires c = sym (ap in_range c.in-Quarter.is) ∙ c.requires.ranged
+pub quarter_outer-requires : goal.quarter_outer-requires
+quarter_outer-requires c = sym (ap in_range c.in-Quarter.is) ∙ c.requires.ranged
 
 pub update-requires-in-Quarter : goal.update-requires-in-Quarter
 update-requires-in-Quarter c =
     let m = on c.args.bench c.args.z.now c.args.p.now c.args.za.now in
     let b = machine_passes m c.requires.bench_passes in
     let i = c.in-Quarter in
-    let (h, r) = quarter_ready m b i.op i.tile i.first i.second (sym (ap in_range i.is) ∙ c.requires.ranged) in
-    record { shaped = rw c.quarter_outer-o.ensures h; ready = rw c.quarter_outer-o.ensures r; za_len = b.za_sized }
+    let (h, r) = quarter_ready m b i.product (sym (ap in_range i.is) ∙ c.requires.ranged) in
+    record { shaped = rw c.quarter_outer.ensures h; ready = rw c.quarter_outer.ensures r; za_len = b.za_sized }
 
 pub clear_tiles-requires : goal.clear_tiles-requires
 clear_tiles-requires c =
@@ -31,10 +31,10 @@ clear_tiles-requires c =
     (b.length_legal, b.za_sized)
 
 pub returns-in-Predicated : goal.returns-in-Predicated
-returns-in-Predicated c = rw c.in-Predicated.is (rw c.predicated_outer-o.ensures at c.update.ensures)
+returns-in-Predicated c = rw c.in-Predicated.is (rw c.predicated_outer.ensures at c.update.ensures)
 
 pub returns-in-Quarter : goal.returns-in-Quarter
-returns-in-Quarter c = rw c.in-Quarter.is (rw c.quarter_outer-o.ensures at c.update-in-Quarter.ensures)
+returns-in-Quarter c = rw c.in-Quarter.is (rw c.quarter_outer.ensures at c.update-in-Quarter.ensures)
 
 pub returns-in-Zero : goal.returns-in-Zero
 returns-in-Zero c = rw c.in-Zero.is c.clear_tiles.ensures

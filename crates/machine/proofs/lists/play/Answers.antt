@@ -3,17 +3,17 @@ use native.Mathlib.Omega.{arith}
 use Rattle.machine.proofs.Runs.{turn, play_start, play_turn, play_end}
 use Rattle.machine.proofs.lists.play.Goals as goal
 
-pub loop-k-init : goal.loop-k-init
-loop-k-init c = play_start _ _
+pub loop-word-init : goal.loop-word-init
+loop-word-init c = play_start _ _
 
-pub bounds-words-k : goal.bounds-words-k
-bounds-words-k c = c.loop-k-test.true
+pub bounds-words-word-index : goal.bounds-words-word-index
+bounds-words-word-index c = c.loop-word-test.true
 
-pub loop-k-preserved : goal.loop-k-preserved
-loop-k-preserved c = play_turn _ _ _ _ _ c.loop-k.invariant c.loop-k-test.true (turn _ _ _ c.execute.ensures.za_after)
+pub loop-word-preserved : goal.loop-word-preserved
+loop-word-preserved c = play_turn _ _ _ _ _ c.loop-word.invariant c.loop-word-test.true (turn _ _ _ c.execute.ensures.za_after)
 
 pub shape_of-za : goal.shape_of-za
-shape_of-za c = c.loop-k.invariant.alike.za_length
+shape_of-za c = c.loop-word.invariant.alike.za_length
 
 pub returns : goal.returns
-returns c = play_end _ _ _ _ c.loop-k.invariant (omega arith)
+returns c = play_end _ _ _ _ c.loop-word.invariant (omega arith)

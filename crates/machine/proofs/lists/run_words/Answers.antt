@@ -5,7 +5,7 @@ use mathlib.Core.List.{List, [], ◌∷◌}
 use mathlib.Core.Option.{none, some}
 use Prim.Native.Nat.{ℕ}
 use native.Mathlib.Omega.{arith}
-use lib.ListN.{get_or}
+use lib.ListN.{length, get_or}
 use Rattle.std.specs.Prelude.{Err, Ok, Result}
 use Rattle.isa.specs.Refusals.{Test}
 use Rattle.isa.specs.Answers.{describe}
@@ -53,15 +53,14 @@ loop-i-preserved c =
     let s = progress a.bench a.z.now a.p.now l.za l.cleared w in
     let x = c.execute_next.ensures in
     let (f, d) = admitted a.bench a.z.now a.p.now l.za l.cleared w x.answer c.in-Ok.is in
-    run_turn _ _ s _ l.invariant c.if-words-i.false _ f
+    run_turn _ _ s _ l.invariant c.loop-i-test.true _ f
     (executed_next s.machine l.cleared w _ _ (as_single s w _ (same_tests l.invariant.alike ∙ c.requires) f x.za_after)
     (λ r. c.also_cleared-cleared.ensures r ∙ ap (λ o. masked l.cleared r || in_mask (mask_of o) r) (sym d)))
 
-pub shape_of-za-then-words-i : goal.shape_of-za-then-words-i
-shape_of-za-then-words-i c = c.loop-i.invariant.alike.za_length
-
-pub returns-then-words-i : goal.returns-then-words-i
-returns-then-words-i c = run_end _ _ _ _ c.loop-i.invariant (omega arith)
+pub returns : goal.returns
+returns c =
+    let n : length c.args.words.now ≡ c.loop-i.i = omega (arith, c.loop-i.invariant.within) in
+    rw n (run_end _ _ _ _ c.loop-i.invariant (omega arith))
 
 pub returns-in-Err : goal.returns-in-Err
 returns-in-Err c =
@@ -69,5 +68,5 @@ returns-in-Err c =
     let l = c.loop-i in
     let w = get_or a.words.now l.i 0 in
     let e = c.execute_next.ensures in
-    run_refused _ _ (progress a.bench a.z.now a.p.now l.za l.cleared w) _ l.invariant c.if-words-i.false _ _
+    run_refused _ _ (progress a.bench a.z.now a.p.now l.za l.cleared w) _ l.invariant c.loop-i-test.true _ _
     (refused a.bench a.z.now a.p.now l.za l.cleared w e.answer c.in-Err.is) e.za_after

@@ -21,17 +21,17 @@ admitted b w p q = admit_accepted b w [] _ (sym q ∙ p)
 pub admit-requires : goal.admit-requires
 admit-requires c = c.requires
 
-pub returns-then-has_opposite : goal.returns-then-has_opposite
-returns-then-has_opposite c =
+pub returns-in-Ok : goal.returns-in-Ok
+returns-in-Ok c =
     let (f, d) = admitted c.args.bench c.args.word c.admit.ensures c.in-Ok.is in
     rw (f, d, sym c.has_opposite.ensures ∙ c.if-has_opposite.true) c.flip_s.ensures
 
-pub returns-in-Err : goal.returns-in-Err
-returns-in-Err c =
-    let a = c.args in
-    rw (admit_refused a.bench a.word [] _ (sym c.in-Err.is ∙ c.admit.ensures))
-
-pub returns-else-has_opposite : goal.returns-else-has_opposite
-returns-else-has_opposite c =
+pub returns-in_default : goal.returns-in_default
+returns-in_default c =
     let (f, d) = admitted c.args.bench c.args.word c.admit.ensures c.in-Ok.is in
     rw (f, d, sym c.has_opposite.ensures ∙ c.if-has_opposite.false)
+
+pub returns-in_default-2 : goal.returns-in_default-2
+returns-in_default-2 c =
+    let a = c.args in
+    rw (admit_refused a.bench a.word [] _ (sym c.in_default.is ∙ c.admit.ensures))
