@@ -2,7 +2,7 @@
 use mathlib.Core.Path.{◌≡◌, refl, sym, ap, ap₂, ◌∙◌}
 use mathlib.Core.List.{List, [], ◌∷◌, ◌++◌}
 use Prim.Native.Nat.{ℕ, zero, suc, ◌+◌, ◌*◌, ◌/◌, ◌%◌, ◌≤◌, ◌<◌}
-use native.Mathlib.Nat.{add-zero, not-suc-le-zero, le_of_suc-le-suc}
+use native.Mathlib.Nat.{add-zero}
 use native.Mathlib.Omega.{arith}
 use lib.ListN.{length, take, drop, length-drop}
 use lib.Seq.{get_or-drop, drop-cons, length-take-le}
@@ -98,14 +98,6 @@ pub length-words_at : (s : List ℕ) (i n : ℕ) → length (words_at s i n) ≡
 unfolding words_at
 length-words_at s i zero = refl
 length-words_at s i (suc n) = ap suc (length-words_at s (i + 4) n)
-
-pub at-words_at : (s : List ℕ) (i n k : ℕ) → k < n → at (words_at s i n) k ≡ number4 s (i + 4 * k)
-unfolding words_at
-at-words_at s i zero k h = absurd (not-suc-le-zero h)
-at-words_at s i (suc n) zero h = ap (number4 s) (sym (add-zero i))
-at-words_at s i (suc n) (suc k) h =
-    let e : i + 4 + 4 * k ≡ i + 4 * suc k = omega arith in
-    at-words_at s (i + 4) n k (le_of_suc-le-suc h) ∙ ap (number4 s) e
 
 pub below_words_at : (s : List ℕ) (i n : ℕ) → Below 256 s → Below 4294967296 (words_at s i n)
 unfolding words_at

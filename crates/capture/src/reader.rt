@@ -34,6 +34,7 @@ pub fn read(file: &[u8], words: &mut [u32], z: &mut [u8], p: &mut [u8], za: &mut
 }
 
 // The parts of a capture of n words to the starts of buffers that are long enough.
+// The four buffers come one by one, as `read`, which C reaches, is lent them; a struct for this one call would be no plainer.
 fn take_parts(
     file: &[u8],
     n: usize,

@@ -1,4 +1,5 @@
 // Room for every capture. Each is a function of its own: proofs take an array by its length, as it is too long to compute with.
+// One over a const parameter would be no plainer: each body is one literal, and only the length that its contract names differs.
 ghost use Rattle.std.specs.Prelude.{◌≡◌, length, replicate};
 ghost use Rattle.storage.specs.Sizes.{z_size, p_size, za_size};
 ghost use Rattle.machine.specs.Lists.{most_words};

@@ -32,6 +32,7 @@ pub fn write(bench: Bench, words: &[u32], z: &[u8], p: &[u8], za: &[u8], room: &
 }
 
 // The file of legal sizes to the start of a room that is long enough.
+// What a file holds comes one by one, as `write`, which C reaches, is given it; a struct for this one call would be no plainer.
 fn fill(bench: Bench, words: &[u32], z: &[u8], p: &[u8], za: &[u8], room: &mut [u8])
     requires bounds { (bench.flags ≤ all_flags) × (bench.vb ≤ 256) × (length words.now ≤ most_words) × (length z.now ≤ 8192) × (length p.now ≤ 512) × (length za.now ≤ 65536) }
     requires fits { 25 + 4 * length words.now + length z.now + length p.now + length za.now ≤ length room.old }
@@ -53,17 +54,8 @@ fn put_head(bench: Bench, room: &mut [u8])
     ensures { room.new ≡ sets room.old 0 (version ∷ part (head_of bench)) }
 {
     let modes = modes_of(bench.sm, bench.za);
-    let head = [
-        VERSION,
-        0,
-        0,
-        0,
-        4,
-        bench.flags as u8,
-        modes,
-        (bench.vb / 256 % 256) as u8,
-        (bench.vb % 256) as u8,
-    ];
+    let vb = (bench.vb as u16).to_be_bytes();
+    let head = [VERSION, 0, 0, 0, 4, bench.flags as u8, modes, vb[0], vb[1]];
     put_bytes(room, 0, &head);
 }
 
@@ -71,14 +63,10 @@ fn put_head(bench: Bench, room: &mut [u8])
 pub fn modes_of(streaming: bool, za_on: bool) -> u8
     ensures { result ≡ modes streaming za_on }
 {
-    if streaming {
-        if za_on { 3 } else { 1 }
-    } else {
-        if za_on { 2 } else { 0 }
-    }
+    streaming as u8 + 2 * za_on as u8
 }
 
-// A part of words, from i on.
+// A part of words, from i on. One function with put_part would be no plainer: bytes are copied, words are turned into bytes.
 fn put_word_part(room: &mut [u8], i: usize, words: &[u32])
     requires { (i + 4 + 4 * length words.now ≤ length room.old) × (length words.now ≤ most_words) }
     ensures { room.new ≡ sets room.old i (part (word_bytes words.now)) }

@@ -6,4 +6,4 @@ use Rattle.capture.proofs.writer.put_head.Goals as goal
 pub returns : goal.returns
 returns c =
     let a = c.args in
-    c.put_bytes.ensures ∙ head_put a.room.now a.bench _ c.modes_of-modes.ensures
+    c.put_bytes.ensures ∙ rw c.to_be_bytes-vb.ensures (head_put a.room.now a.bench _ c.modes_of-modes.ensures)
