@@ -20,9 +20,7 @@ use Rattle.machine.specs.Claims.{Passes}
 use Rattle.machine.proofs.Tests.{bench_passes}
 use Rattle.machine.proofs.Numbers.{start_passes, start_passed}
 use Rattle.capture.specs.Format.{version, Capture, capture_of, modes, head_of, word_bytes, parts_of, joined, Short, bytes_of_capture, Below, Legal, Holds, NoCapture, number2}
-use Rattle.capture.specs.Steps.{words_at, bytes_at, PartAt, NoParts, FiveParts, Splits, z_at, p_at, za_at, bench_at, capture_at, Captured}
-use Rattle.capture.specs.declared.Parts.{Parts}
-use Rattle.capture.specs.declared.Parts.TheVariants.{Five, NotFive}
+use Rattle.capture.specs.Steps.{words_at, bytes_at, PartAt, NoParts, FiveParts, z_at, p_at, za_at, bench_at, capture_at, Captured}
 use Rattle.capture.proofs.Numbers.{below_drop, below_take, length_bytes_at, big2-number, drop_four, length_word_bytes, length-words_at, below_words_at, word_bytes_at, word_bytes_same}
 use Rattle.capture.proofs.Partition.{length_part, joined_same, five, five_joined, five_short}
 
@@ -275,10 +273,3 @@ module _ (file : List ℕ) (a b c d e : ℕ) (f : FiveParts file a b c d e) wher
       let w : b ≡ 4 * (b / 4) = omega (arith, words) in
       let (p, m) = begun (bench_at file) c d e (b / 4) (subst (λ (x : Bench). first_failure (start_tests x c d e (b / 4)) ≡ none) i h) in
       subst (λ (x : Bench). Captured file x (b / 4)) (sym i) (found (b / 4) bytes front four w low p m)
-
--- ---- by what five_parts answers
-pub is_five : (file : List ℕ) (r : Parts) (a b c d e : ℕ) → Splits file r → r ≡ Five a b c d e → FiveParts file a b c d e
-is_five file r a b c d e q p = rw p at q
-
-pub is_not_five : (file : List ℕ) (r : Parts) → Splits file r → r ≡ NotFive → NoParts file 1 5
-is_not_five file r q p = rw p at q

@@ -6,9 +6,7 @@ use native.Mathlib.Omega.{arith}
 use lib.ListN.{length, take, drop, length-append, length-drop, drop_of_length-le, take-append-drop}
 use lib.Seq.{take-append_seam, drop-append_seam, take_at, drop_at, drop-drop}
 use Rattle.capture.specs.Format.{part, joined, Short, Below}
-use Rattle.capture.specs.Steps.{number4, bytes_at, PartAt, NoPart, Peels, NoParts, FiveParts}
-use Rattle.capture.specs.declared.Part.{Part}
-use Rattle.capture.specs.declared.Part.TheVariants.{Whole, Missing}
+use Rattle.capture.specs.Steps.{number4, bytes_at, PartAt, NoPart, NoParts, FiveParts}
 use Rattle.capture.proofs.Numbers.{number4_of, drop-big4, number4_lt, length_bytes_at}
 
 append_same : (a b x y : List ℕ) → length a ≡ length b → a ++ x ≡ b ++ y → (a ≡ b) × (x ≡ y)
@@ -120,10 +118,3 @@ module _ (file : List ℕ) where
     where
       short : (i n : ℕ) → PartAt file i n → length (bytes_at file (i + 4) n) < 4294967296
       short i n q = rw (length_bytes_at file (i + 4) n q.within) q.short
-
--- ---- by what part_at answers
-pub is_whole : (file : List ℕ) (i n : ℕ) (r : Part) → Peels file i r → r ≡ Whole n → PartAt file i n
-is_whole file i n r q e = rw e at q
-
-pub is_missing : (file : List ℕ) (i : ℕ) (r : Part) → Peels file i r → r ≡ Missing → NoPart file i
-is_missing file i r q e = rw e at q

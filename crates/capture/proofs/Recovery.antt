@@ -13,12 +13,10 @@ use Rattle.isa.proofs.Rows.{both}
 use Rattle.storage.specs.Sizes.{z_size, p_size, za_size}
 use Rattle.storage.specs.Bytes.{at}
 use Rattle.machine.specs.declared.Bench.{Bench}
-use Rattle.capture.specs.Format.{version, Capture, bytes_of_capture}
+use Rattle.capture.specs.Format.{version, Capture, NoCapture, bytes_of_capture}
 use Rattle.capture.specs.Outcomes.{Buffers, buffers, Fits, OtherVersion, Reads}
 use Rattle.capture.specs.Outcomes.Reads.{contents, another, malformed, too_long}
-use Rattle.capture.specs.Steps.{words_at, bytes_at, z_at, p_at, za_at, capture_at, Captured, Finds, long_enough}
-use Rattle.capture.specs.declared.Found.{Found}
-use Rattle.capture.specs.declared.Found.TheVariants.{Capture as Is, Nothing}
+use Rattle.capture.specs.Steps.{words_at, bytes_at, z_at, p_at, za_at, capture_at, Captured, long_enough}
 use Rattle.capture.proofs.Numbers.{length-words_at}
 
 -- ---- the first byte
@@ -34,12 +32,8 @@ read_another file b h d =
 pub this_version : (file : List ℕ) → at file 0 ≡ version → OtherVersion file → ⊥
 this_version file e o = o.other (sym (ap (λ (l : List ℕ). at l 0) o.is) ∙ e)
 
--- ---- by what find answers
-pub is_capture : (file : List ℕ) (r : Found) (b : Bench) (n : ℕ) → Finds file r → r ≡ Is b n → Captured file b n
-is_capture file r b n q e = rw e at q
-
-pub read_nothing : (file : List ℕ) (b : Buffers) (r : Found) → at file 0 ≡ version → Finds file r → r ≡ Nothing → Reads file b (Err Format) b
-read_nothing file b r v q e = malformed (this_version file v) (rw e at q) refl refl
+pub read_nothing : (file : List ℕ) (b : Buffers) → at file 0 ≡ version → NoCapture file → Reads file b (Err Format) b
+read_nothing file b v q = malformed (this_version file v) q refl refl
 
 -- ---- whether the contents fit
 pub record Enough (n vb words z p za : ℕ) : Type 0 where
@@ -92,7 +86,7 @@ module _ (file : List ℕ) (bench : Bench) (n : ℕ) (words z p za : List ℕ) (
       → z' ≡ bytes_at file (z_at n) (z_size vb) ++ drop (z_size vb) z
       → p' ≡ bytes_at file (p_at n vb) (p_size vb) ++ drop (p_size vb) p
       → za' ≡ bytes_at file (za_at n vb) (za_size vb) ++ drop (za_size vb) za
-      → Reads file (buffers words z p za) (Ok bench n) (buffers words' z' p' za')
+      → Reads file (buffers words z p za) (Ok (record { bench = bench; words = n })) (buffers words' z' p' za')
   read_done h words' z' p' za' ew ez ep ea =
       let l = q.holds.lawful.passes in
       let m = length-words_at file 13 n in

@@ -24,7 +24,8 @@ use Rattle.machine.specs.Lists.{most_words, list_test}
 use Rattle.machine.specs.Claims.{FirstFive}
 use Rattle.machine.proofs.Numbers.{number_of, Late, given, first_five, later, start_passes}
 use Rattle.capture.specs.Format.{Capture, bytes_of_capture, Legal, Holds, NoCapture}
-use Rattle.capture.specs.Outcomes.{room_test, write_tests, written, filled, over, write_of, room_written, Buffers, Fits, holding, contents_of, OtherVersion, Reads, Refuses, longest, Roomy, read_number}
+use Rattle.capture.specs.declared.Contents.{Contents}
+use Rattle.capture.specs.Outcomes.{room_test, write_tests, written, filled, over, write_of, room_written, Buffers, Fits, holding, contents_of, OtherVersion, Reads, Refuses, longest, Roomy}
 use Rattle.capture.specs.Outcomes.Reads.{contents, another, malformed, too_long}
 use Rattle.capture.specs.Outcomes.Refuses.{by_version, by_format}
 use Rattle.capture.specs.Claims.{OneCapture, Answers, EveryAnswer, OneOutcome, BenchPasses, Writes, Suffices, WriteThenRead, in_buffers, WrittenAgain, ReadThenWrite}
@@ -42,7 +43,7 @@ not_another : {file : List ℕ} {c : Capture} → Holds file c → OtherVersion 
 unfolding bytes_of_capture
 not_another h o = o.other (ap (λ (l : List ℕ). at l 0) (sym o.is ∙ h.bytes))
 
-module _ {file : List ℕ} {b a : Buffers} {r : Result Ok Refusal} where
+module _ {file : List ℕ} {b a : Buffers} {r : Result Contents Refusal} where
   reads_capture : {c : Capture} → Holds file c → Fits c b → Reads file b r a → (r ≡ contents_of c) × (a ≡ holding c b)
   reads_capture {c} h f (contents d k g e l) = let s : d ≡ c = same_capture k h in (e ∙ ap contents_of s, l ∙ ap (λ (x : Capture). holding x b) s)
   reads_capture h f (another o e l) = absurd (not_another h o)
@@ -76,44 +77,44 @@ one_outcome file b a a' r r' (too_long c h f e l) q = let (x, y) = reads_long h 
 pub every-answer : EveryAnswer
 every-answer file b after r q =
     record {
-      gives_0 = (λ e. zero q e, λ t. ap read_number (reads_capture t.1 t.2 q).0);
-      gives_15 = (λ e. fifteen q e, λ o. ap read_number (reads_another o q).0);
-      gives_16 = (λ e. sixteen q e, λ t. ap read_number (reads_malformed t.0 t.1 q).0);
-      gives_12 = (λ e. twelve q e, λ t. ap read_number (reads_long t.1 t.2 q).0);
+      gives_0 = (λ e. zero q e, λ t. ap number_in (reads_capture t.1 t.2 q).0);
+      gives_15 = (λ e. fifteen q e, λ o. ap number_in (reads_another o q).0);
+      gives_16 = (λ e. sixteen q e, λ t. ap number_in (reads_malformed t.0 t.1 q).0);
+      gives_12 = (λ e. twelve q e, λ t. ap number_in (reads_long t.1 t.2 q).0);
       refused = λ a p n. untouched p n;
     }
   where
-    zero : Reads file b r after → read_number r ≡ 0 → (c : Capture) × Holds file c × Fits c b
+    zero : Reads file b r after → number_in r ≡ 0 → (c : Capture) × Holds file c × Fits c b
     zero (contents c h f e l) n = (c, h, f)
-    zero (another o e l) n = absurd (omega (arith, ap read_number e))
-    zero (malformed o m e l) n = absurd (omega (arith, ap read_number e))
-    zero (too_long c h f e l) n = absurd (omega (arith, ap read_number e))
+    zero (another o e l) n = absurd (omega (arith, ap number_in e))
+    zero (malformed o m e l) n = absurd (omega (arith, ap number_in e))
+    zero (too_long c h f e l) n = absurd (omega (arith, ap number_in e))
 
-    fifteen : Reads file b r after → read_number r ≡ 15 → OtherVersion file
-    fifteen (contents c h f e l) n = absurd (omega (arith, ap read_number e))
+    fifteen : Reads file b r after → number_in r ≡ 15 → OtherVersion file
+    fifteen (contents c h f e l) n = absurd (omega (arith, ap number_in e))
     fifteen (another o e l) n = o
-    fifteen (malformed o m e l) n = absurd (omega (arith, ap read_number e))
-    fifteen (too_long c h f e l) n = absurd (omega (arith, ap read_number e))
+    fifteen (malformed o m e l) n = absurd (omega (arith, ap number_in e))
+    fifteen (too_long c h f e l) n = absurd (omega (arith, ap number_in e))
 
-    sixteen : Reads file b r after → read_number r ≡ 16 → (OtherVersion file → ⊥) × NoCapture file
-    sixteen (contents c h f e l) n = absurd (omega (arith, ap read_number e))
-    sixteen (another o e l) n = absurd (omega (arith, ap read_number e))
+    sixteen : Reads file b r after → number_in r ≡ 16 → (OtherVersion file → ⊥) × NoCapture file
+    sixteen (contents c h f e l) n = absurd (omega (arith, ap number_in e))
+    sixteen (another o e l) n = absurd (omega (arith, ap number_in e))
     sixteen (malformed o m e l) n = (o, m)
-    sixteen (too_long c h f e l) n = absurd (omega (arith, ap read_number e))
+    sixteen (too_long c h f e l) n = absurd (omega (arith, ap number_in e))
 
-    twelve : Reads file b r after → read_number r ≡ 12 → (c : Capture) × Holds file c × (Fits c b → ⊥)
-    twelve (contents c h f e l) n = absurd (omega (arith, ap read_number e))
-    twelve (another o e l) n = absurd (omega (arith, ap read_number e))
-    twelve (malformed o m e l) n = absurd (omega (arith, ap read_number e))
+    twelve : Reads file b r after → number_in r ≡ 12 → (c : Capture) × Holds file c × (Fits c b → ⊥)
+    twelve (contents c h f e l) n = absurd (omega (arith, ap number_in e))
+    twelve (another o e l) n = absurd (omega (arith, ap number_in e))
+    twelve (malformed o m e l) n = absurd (omega (arith, ap number_in e))
     twelve (too_long c h f e l) n = (c, h, f)
 
-    untouched : {a : Buffers} → Reads file b r a → (read_number r ≡ 0 → ⊥) → a ≡ b
-    untouched (contents c h f e l) n = absurd (n (ap read_number e))
+    untouched : {a : Buffers} → Reads file b r a → (number_in r ≡ 0 → ⊥) → a ≡ b
+    untouched (contents c h f e l) n = absurd (n (ap number_in e))
     untouched (another o e l) n = l
     untouched (malformed o m e l) n = l
     untouched (too_long c h f e l) n = l
 
-pub answered : {file : List ℕ} {b after : Buffers} {r : Result Ok Refusal} → Reads file b r after
+pub answered : {file : List ℕ} {b after : Buffers} {r : Result Contents Refusal} → Reads file b r after
     → record { reads : Reads file b r after; answers : Answers file b r }
 answered {file} {b} {after} {r} q = record { reads = q; answers = every-answer file b after r q }
 
@@ -242,7 +243,7 @@ write_then_read c room n h e =
       back = λ b after r q g. reads_capture (record { lawful = l; bytes = file }) g q;
     }
   where
-    same : {m : ℕ} → Ok m ≡ Ok n → m ≡ n
+    same : {m : ℕ} → ◌≡◌ {A = Result ℕ Refusal} (Ok m) (Ok n) → m ≡ n
     same p = cc
 
 written_again : {file : List ℕ} {c : Capture} → Holds file c → WrittenAgain file c
@@ -255,15 +256,17 @@ written_again {file} {c} h =
     }
 
 -- an answer with contents is of a capture
-contents_of_lem : {file : List ℕ} {before after : Buffers} {b : Bench} {n : ℕ} → Reads file before (Ok b n) after
+contents_of_lem : {file : List ℕ} {before after : Buffers} {b : Bench} {n : ℕ} → Reads file before (Ok (record { bench = b; words = n })) after
     → (c : Capture) × Holds file c × (b ≡ c.bench) × (n ≡ length c.words) × (after ≡ holding c before)
-contents_of_lem {b = b} {n = n} (contents c h f e l) = let x : b ≡ c.bench = cc in let y : n ≡ length c.words = cc in (c, h, x, y, l)
+contents_of_lem {b = b} {n = n} (contents c h f e l) =
+    let s : ◌≡◌ {A = Contents} (record { bench = b; words = n }) (record { bench = c.bench; words = length c.words }) = cc in
+    (c, h, ap (λ (x : Contents). x.bench) s, ap (λ (x : Contents). x.words) s, l)
 contents_of_lem (another o e l) = let z : ◌≡◌ {A = ℕ} 0 1 = cc in absurd (omega arith)
 contents_of_lem (malformed o m e l) = let z : ◌≡◌ {A = ℕ} 0 1 = cc in absurd (omega arith)
 contents_of_lem (too_long c h f e l) = let z : ◌≡◌ {A = ℕ} 0 1 = cc in absurd (omega arith)
 
 -- the capture that stands in the buffers then is that of the file
-in_buffers_lem : {file : List ℕ} {before after : Buffers} {b : Bench} {n : ℕ} → Reads file before (Ok b n) after
+in_buffers_lem : {file : List ℕ} {before after : Buffers} {b : Bench} {n : ℕ} → Reads file before (Ok (record { bench = b; words = n })) after
     → Holds file (in_buffers b n after) × (length (take n after.words) ≡ n)
 in_buffers_lem {file} {before} {after} {b} {n} q =
     let (c, h, x, y, l) = contents_of_lem q in
@@ -292,15 +295,15 @@ pub record There (b : Bench) (n : ℕ) (s : Buffers) : Type 0 where
   pub za : length (take (za_size b.vb) s.za) ≡ za_size b.vb
   pub vb_most : b.vb ≤ 256
 
-pub contents_there : {file : List ℕ} {before after : Buffers} {a : Result Ok Refusal} {b : Bench} {n : ℕ} → Reads file before a after → a ≡ Ok b n → There b n after
+pub contents_there : {file : List ℕ} {before after : Buffers} {a : Result Contents Refusal} {b : Bench} {n : ℕ} → Reads file before a after → a ≡ Ok (record { bench = b; words = n }) → There b n after
 contents_there {file} {before} {after} q e =
-    let (h, w) = in_buffers_lem (subst (λ (r : Result Ok Refusal). Reads file before r after) e q) in
+    let (h, w) = in_buffers_lem (subst (λ (r : Result Contents Refusal). Reads file before r after) e q) in
     let s = h.lawful.passes in
     record { words = w; z = s.z_sized; p = s.p_sized; za = s.za_sized; vb_most = (bounds _ _ _ _ s).vb_most }
 
 -- where there is room for every capture, only 15 and 16 are left
-pub refused_roomy : {file : List ℕ} {before after : Buffers} {a : Result Ok Refusal} {r : Refusal} → Roomy before → Reads file before a after → a ≡ Err r → Refuses file r
-refused_roomy {file} {before} {after} {r = r} w q i = go (subst (λ (a : Result Ok Refusal). Reads file before a after) i q)
+pub refused_roomy : {file : List ℕ} {before after : Buffers} {a : Result Contents Refusal} {r : Refusal} → Roomy before → Reads file before a after → a ≡ Err r → Refuses file r
+refused_roomy {file} {before} {after} {r = r} w q i = go (subst (λ (a : Result Contents Refusal). Reads file before a after) i q)
   where
     go : Reads file before (Err r) after → Refuses file r
     go (contents c h f e l) = let z : ◌≡◌ {A = ℕ} 0 1 = cc in absurd (omega arith)
@@ -316,7 +319,7 @@ refused_plain {r = r} (malformed o m e l) = let x : r ≡ Format = cc in rw x
 refused_plain {r = r} (too_long c h f e l) = let x : r ≡ Room = cc in rw x
 
 -- what was read is small
-pub contents_small : {file : List ℕ} {before after : Buffers} {b : Bench} {n : ℕ} → Reads file before (Ok b n) after
+pub contents_small : {file : List ℕ} {before after : Buffers} {b : Bench} {n : ℕ} → Reads file before (Ok (record { bench = b; words = n })) after
     → (b.flags ≤ all_flags) × (b.vb ≤ 256) × (n ≤ most_words)
 contents_small q =
     let (c, h, x, y, l) = contents_of_lem q in

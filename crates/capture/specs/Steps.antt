@@ -1,16 +1,12 @@
 -- What the contracts of private functions cite: numbers and parts by their places in a file.
-use Rattle.std.specs.Prelude.{◌≡◌, Bool, ◌&&◌, List, [], ◌∷◌, ◌++◌, ℕ, zero, suc, ◌+◌, ◌*◌, ◌%◌, ◌≤◌, ◌<◌, eqb, leb, length, take, drop}
+use Rattle.std.specs.Prelude.{◌≡◌, Bool, ◌&&◌, List, [], ◌∷◌, ◌++◌, ℕ, zero, suc, ◌+◌, ◌*◌, ◌%◌, ◌≤◌, ◌<◌, eqb, leb, length, take, drop, Option, Some, None}
 use Rattle.storage.specs.Sizes.{z_size, p_size, za_size}
 use Rattle.storage.specs.Bytes.{at}
 use Rattle.machine.specs.declared.Bench.{Bench}
 use Rattle.machine.specs.Lists.{most_words}
 use Rattle.capture.specs.Format.{number2, Capture, capture_of, part, joined, Short, Holds, NoCapture}
-use Rattle.capture.specs.declared.Part.{Part}
-use Rattle.capture.specs.declared.Part.TheVariants.{Whole, Missing}
+use Rattle.capture.specs.declared.Contents.{Contents}
 use Rattle.capture.specs.declared.Parts.{Parts}
-use Rattle.capture.specs.declared.Parts.TheVariants.{Five, NotFive}
-use Rattle.capture.specs.declared.Found.{Found}
-use Rattle.capture.specs.declared.Found.TheVariants.{Capture as Is, Nothing}
 
 -- the number whose four bytes, highest first, stand from i on
 abbrev pub number4 : List ℕ → ℕ → ℕ
@@ -34,9 +30,9 @@ pub record PartAt (file : List ℕ) (i n : ℕ) : Type 0 where
 pub record NoPart (file : List ℕ) (i : ℕ) : Type 0 where
   pub never : (t rest : List ℕ) → length t < 4294967296 → drop i file ≡ part t ++ rest → ⊥
 
-abbrev pub Peels : List ℕ → ℕ → Part → Type 0
-Peels file i (Whole n) = PartAt file i n
-Peels file i Missing = NoPart file i
+abbrev pub Peels : List ℕ → ℕ → Option ℕ → Type 0
+Peels file i (Some n) = PartAt file i n
+Peels file i None = NoPart file i
 
 -- from i on there are no n parts and nothing after them
 pub record NoParts (file : List ℕ) (i n : ℕ) : Type 0 where
@@ -51,9 +47,9 @@ pub record FiveParts (file : List ℕ) (a b c d e : ℕ) : Type 0 where
   pub fifth : PartAt file (5 + a + 4 + b + 4 + c + 4 + d) e
   pub ends : length file ≡ 5 + a + 4 + b + 4 + c + 4 + d + 4 + e
 
-abbrev pub Splits : List ℕ → Parts → Type 0
-Splits file (Five a b c d e) = FiveParts file a b c d e
-Splits file NotFive = NoParts file 1 5
+abbrev pub Splits : List ℕ → Option Parts → Type 0
+Splits file (Some n) = FiveParts file n.head n.words n.z n.p n.za
+Splits file None = NoParts file 1 5
 
 -- where the parts of a capture of n words stand
 abbrev pub z_at : ℕ → ℕ
@@ -81,9 +77,9 @@ pub record Captured (file : List ℕ) (b : Bench) (n : ℕ) : Type 0 where
   pub vb_most : b.vb ≤ 256
   pub za_most : za_size b.vb ≤ 65536
 
-abbrev pub Finds : List ℕ → Found → Type 0
-Finds file (Is b n) = Captured file b n
-Finds file Nothing = NoCapture file
+abbrev pub Finds : List ℕ → Option Contents → Type 0
+Finds file (Some c) = Captured file c.bench c.words
+Finds file None = NoCapture file
 
 -- whether n words and Z, P and ZA fit buffers of these lengths
 abbrev pub long_enough : ℕ → ℕ → ℕ → ℕ → ℕ → ℕ → Bool

@@ -8,29 +8,36 @@ ghost use Rattle.capture.specs.Steps.{long_enough, words_at, bytes_at, z_at, p_a
 
 use crate::big_endian::{take_bytes, take_words};
 use crate::finder::find;
-use crate::{Found, Reading, VERSION};
+use crate::{Contents, VERSION};
 use isa::Refusal;
 
-// Puts the contents of a file at the starts of the buffers. What is past them stays; refused, all of it does.
-pub fn read(file: &[u8], words: &mut [u32], z: &mut [u8], p: &mut [u8], za: &mut [u8]) -> Reading
+// Puts the contents of a file at the starts of the buffers, and answers what else it holds. What is past them stays; refused, all of it does.
+pub fn read(
+    file: &[u8],
+    words: &mut [u32],
+    z: &mut [u8],
+    p: &mut [u8],
+    za: &mut [u8],
+) -> Result<Contents, Refusal>
     ensures reads { Reads file.now (buffers words.old z.old p.old za.old) result (buffers words.new z.new p.new za.new) }
     ensures answers { Answers file.now (buffers words.old z.old p.old za.old) result }
 {
-    if file.len() == 0 {
-        return Reading::Refused(Refusal::Format);
+    if file.is_empty() {
+        return Err(Refusal::Format);
     }
     if file[0] != VERSION {
-        return Reading::Refused(Refusal::Version);
+        return Err(Refusal::Version);
     }
-    let Found::Capture { bench, words: n } = find(file) else {
-        return Reading::Refused(Refusal::Format);
+    let Some(contents) = find(file) else {
+        return Err(Refusal::Format);
     };
-    let vb = bench.vb;
+    let n = contents.words;
+    let vb = contents.bench.vb;
     if !long_enough(n, vb, words.len(), z.len(), p.len(), za.len()) {
-        return Reading::Refused(Refusal::Room);
+        return Err(Refusal::Room);
     }
     take_parts(file, n, vb, words, z, p, za);
-    Reading::Contents { bench, words: n }
+    Ok(contents)
 }
 
 // The parts of a capture of n words to the starts of buffers that are long enough.

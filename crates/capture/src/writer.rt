@@ -1,34 +1,38 @@
 // Writing a capture file.
 ghost use Rattle.std.specs.Prelude.{◌≡◌, ◌∷◌, ◌+◌, ◌*◌, ◌≤◌, length};
 ghost use Rattle.std.proofs.lemmas.List.Edits.{sets};
+ghost use Rattle.isa.specs.Refusals.{number_in, value_in};
 ghost use Rattle.isa.specs.Table.{all_flags};
 ghost use Rattle.machine.specs.Lists.{most_words};
 ghost use Rattle.capture.specs.Format.{version, head_of, modes, word_bytes, part, bytes_of_capture, capture_of};
-ghost use Rattle.capture.specs.Outcomes.{write_of, room_written, written_number, written_length, write_number, write_length};
+ghost use Rattle.capture.specs.Outcomes.{write_of, room_written, write_number, write_length};
 
 use crate::big_endian::{put_bytes, put_words, store_u32};
-use crate::{VERSION, Written};
+use crate::VERSION;
 use isa::Refusal;
-use machine::{Bench, Outcome};
+use machine::Bench;
 
-// Puts the file at the start of room. The bytes after it stay; refused, all of them do.
-pub fn write(bench: Bench, words: &[u32], z: &[u8], p: &[u8], za: &[u8], room: &mut [u8]) -> Written
+// Puts the file at the start of room, and answers its length. The bytes after it stay; refused, all of them do.
+pub fn write(
+    bench: Bench,
+    words: &[u32],
+    z: &[u8],
+    p: &[u8],
+    za: &[u8],
+    room: &mut [u8],
+) -> Result<usize, Refusal>
     ensures answer { result ≡ write_of (capture_of bench words.now z.now p.now za.now) (length room.old) }
     ensures room_after { room.new ≡ room_written (capture_of bench words.now z.now p.now za.now) room.old }
-    ensures number { written_number result ≡ write_number (capture_of bench words.now z.now p.now za.now) (length room.old) }
-    ensures len { written_length result ≡ write_length (capture_of bench words.now z.now p.now za.now) (length room.old) }
+    ensures number { number_in result ≡ write_number (capture_of bench words.now z.now p.now za.now) (length room.old) }
+    ensures len { value_in result ≡ write_length (capture_of bench words.now z.now p.now za.now) (length room.old) }
 {
-    match machine::check_run(bench, z.len(), p.len(), za.len(), words.len()) {
-        Outcome::Refused(r) => Written::Refused(r),
-        Outcome::Done => {
-            let n = 25 + 4 * words.len() + z.len() + p.len() + za.len();
-            if room.len() < n {
-                return Written::Refused(Refusal::Room);
-            }
-            fill(bench, words, z, p, za, room);
-            Written::Length(n)
-        }
+    machine::check_run(bench, z.len(), p.len(), za.len(), words.len())?;
+    let n = 25 + 4 * words.len() + z.len() + p.len() + za.len();
+    if room.len() < n {
+        return Err(Refusal::Room);
     }
+    fill(bench, words, z, p, za, room);
+    Ok(n)
 }
 
 // The file of legal sizes to the start of a room that is long enough.

@@ -6,12 +6,11 @@ mod line;
 
 ghost use Rattle.std.specs.Prelude.{◌≡◌, ◌+◌, ◌*◌, ◌/◌, ◌≤◌, min, length};
 ghost use Rattle.std.proofs.lemmas.List.Edits.{sets};
-ghost use Rattle.text.specs.Printing.{printed_number, printed_missing, printed_length};
+ghost use Rattle.isa.specs.Refusals.{number_in, missing_beside, value_in};
 ghost use Rattle.disassembly.specs.Pieces.{at_start, joined, lines_for, longest_line, listed_all, list_of, room_listed, finish_of, room_finished, finish_number, finish_missing, finish_length};
 
 use isa::Refusal;
 pub use line::{END_LINE, LONGEST_LINE};
-use text::Printed;
 
 // The bytes of a word that have come so far.
 #[derive(Clone, Copy)]
@@ -60,23 +59,23 @@ pub fn list(place: Place, piece: &[u8], room: &mut [u8]) -> Advance
 }
 
 // Puts the line of an odd end, if there is one, at the start of room; the bytes after it stay. Refused, all of them do.
-pub fn finish(place: Place, room: &mut [u8]) -> Printed
+pub fn finish(place: Place, room: &mut [u8]) -> Result<usize, Refusal>
     ensures answer { result ≡ finish_of place (length room.old) }
     ensures room_after { room.new ≡ room_finished place room.old }
-    ensures number { printed_number result ≡ finish_number place (length room.old) }
-    ensures missing { printed_missing result ≡ finish_missing place (length room.old) }
-    ensures len { printed_length result ≡ finish_length place (length room.old) }
+    ensures number { number_in result ≡ finish_number place (length room.old) }
+    ensures missing { missing_beside result ≡ finish_missing place (length room.old) }
+    ensures len { value_in result ≡ finish_length place (length room.old) }
 {
     let begun = place.begun;
     let n = input::count(begun);
     if n == 0 {
-        return Printed::Length(0);
+        return Ok(0);
     }
     if room.len() < END_LINE {
-        return Printed::Refused(Refusal::Room);
+        return Err(Refusal::Room);
     }
     let text = [b'e', b'n', b'd', b' ', b'0' + n as u8, b'\n'];
-    Printed::Length(line::put(room, 0, &text))
+    Ok(line::put(room, 0, &text))
 }
 
 // All of a piece, for which there is room.

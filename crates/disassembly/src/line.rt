@@ -8,7 +8,6 @@ ghost use Rattle.disassembly.specs.Pieces.{longest_line};
 ghost use Rattle.disassembly.specs.Put.{Put};
 
 use isa::Refusal;
-use text::Printed;
 
 // The bytes of the longest line: two numbers of eight digits, two spaces, a text of 47 bytes and a line feed.
 pub const LONGEST_LINE: usize = 66;
@@ -33,8 +32,8 @@ fn put_said(room: &mut [u8], at: usize, word: u32) -> usize
     ensures { Put room.old at room.new result (said word) }
 {
     match text::print(isa::ALL_FLAGS, word, &mut room[at..]) {
-        Printed::Length(n) => at + n,
-        Printed::Refused(r) => put_refusal(room, at, r),
+        Ok(n) => at + n,
+        Err(r) => put_refusal(room, at, r),
     }
 }
 

@@ -7,19 +7,16 @@ ghost use Rattle.isa.specs.Table.{in_range, element_bytes};
 ghost use Rattle.machine.specs.Instructions.{tile_named};
 ghost use Rattle.pairs.specs.Order.{clash, order_matters};
 
-use isa::{Decoded, Instruction, Operation, Tile};
+use isa::{Instruction, Operation, Tile};
 
 // Whether the order of two words matters to some contents of Z, P and ZA: both are outer products that decode accepts, and their
 // tiles share rows and differ in width.
 pub fn order_matters(flags: u32, a: u32, b: u32) -> bool
     ensures { result ≡ order_matters flags a b }
 {
-    match isa::decode(flags, a) {
-        Decoded::Refused(_) => false,
-        Decoded::Accepted(i) => match isa::decode(flags, b) {
-            Decoded::Refused(_) => false,
-            Decoded::Accepted(j) => instructions_clash(i, j),
-        },
+    match (isa::decode(flags, a), isa::decode(flags, b)) {
+        (Ok(i), Ok(j)) => instructions_clash(i, j),
+        _ => false,
     }
 }
 
@@ -29,20 +26,8 @@ fn instructions_clash(i: Instruction, j: Instruction) -> bool
     ensures { result ≡ clash (tile_named (some i)) (tile_named (some j)) }
 {
     match i {
-        Instruction::Predicated {
-            op,
-            tile,
-            pn: _,
-            pm: _,
-            zn: _,
-            zm: _,
-        } => tile_clashes(op, tile, j),
-        Instruction::Quarter {
-            op,
-            tile,
-            first: _,
-            second: _,
-        } => tile_clashes(op, tile, j),
+        Instruction::Predicated(p) => tile_clashes(p.op, p.tile, j),
+        Instruction::Quarter(q) => tile_clashes(q.op, q.tile, j),
         Instruction::Zero(_) => false,
     }
 }
@@ -53,20 +38,8 @@ fn tile_clashes(op: Operation, t: Tile, j: Instruction) -> bool
     ensures { result ≡ clash (some (record { E = element_bytes op; tile = t.0 })) (tile_named (some j)) }
 {
     match j {
-        Instruction::Predicated {
-            op: other,
-            tile,
-            pn: _,
-            pm: _,
-            zn: _,
-            zm: _,
-        } => tiles_clash(op, t, other, tile),
-        Instruction::Quarter {
-            op: other,
-            tile,
-            first: _,
-            second: _,
-        } => tiles_clash(op, t, other, tile),
+        Instruction::Predicated(p) => tiles_clash(op, t, p.op, p.tile),
+        Instruction::Quarter(q) => tiles_clash(op, t, q.op, q.tile),
         Instruction::Zero(_) => false,
     }
 }

@@ -6,18 +6,11 @@ use Rattle.pairs.proofs.instructions_clash.Goals as goal
 
 pub tile_clashes-requires : goal.tile_clashes-requires
 tile_clashes-requires c =
-    let i = c.in-Predicated in (
-      predicated_tile i.op i.tile i.pn i.pm i.zn i.zm
-          (sym (ap in_range c.in-Predicated.is) ∙ c.requires.0),
-      c.requires.1,
-    )
+    (predicated_tile c.in-Predicated.p (sym (ap in_range c.in-Predicated.is) ∙ c.requires.0), c.requires.1)
 
 pub tile_clashes-requires-in-Quarter : goal.tile_clashes-requires-in-Quarter
 tile_clashes-requires-in-Quarter c =
-    let i = c.in-Quarter in (
-      quarter_tile i.op i.tile i.first i.second (sym (ap in_range c.in-Quarter.is) ∙ c.requires.0),
-      c.requires.1,
-    )
+    (quarter_tile c.in-Quarter.q (sym (ap in_range c.in-Quarter.is) ∙ c.requires.0), c.requires.1)
 
 pub returns-in-Predicated : goal.returns-in-Predicated
 returns-in-Predicated c = rw c.in-Predicated.is c.tile_clashes.ensures

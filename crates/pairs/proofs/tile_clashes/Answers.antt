@@ -6,18 +6,11 @@ use Rattle.pairs.proofs.tile_clashes.Goals as goal
 
 pub tiles_clash-requires : goal.tiles_clash-requires
 tiles_clash-requires c =
-    let j = c.in-Predicated in (
-      c.requires.0,
-      predicated_tile j.other j.tile j.pn j.pm j.zn j.zm
-          (sym (ap in_range c.in-Predicated.is) ∙ c.requires.1),
-    )
+    (c.requires.0, predicated_tile c.in-Predicated.p (sym (ap in_range c.in-Predicated.is) ∙ c.requires.1))
 
 pub tiles_clash-requires-in-Quarter : goal.tiles_clash-requires-in-Quarter
 tiles_clash-requires-in-Quarter c =
-    let j = c.in-Quarter in (
-      c.requires.0,
-      quarter_tile j.other j.tile j.first j.second (sym (ap in_range c.in-Quarter.is) ∙ c.requires.1),
-    )
+    (c.requires.0, quarter_tile c.in-Quarter.q (sym (ap in_range c.in-Quarter.is) ∙ c.requires.1))
 
 pub returns-in-Predicated : goal.returns-in-Predicated
 returns-in-Predicated c = rw c.in-Predicated.is c.tiles_clash.ensures

@@ -1,9 +1,9 @@
 -- `capture::finder::find` meets its contract. Assumes nothing.
-use Rattle.capture.proofs.Captures.{is_five, is_not_five, no_parts}
+use Rattle.capture.proofs.Captures.{no_parts}
 use Rattle.capture.proofs.finder.find.Goals as goal
 
 pub capture_of-requires : goal.capture_of-requires
-capture_of-requires c = record { five_parts = is_five _ _ _ _ _ _ _ c.five_parts.ensures c.in-Five.is; version = c.requires.version }
+capture_of-requires c = record { five_parts = c.in_ok-five_parts.ensures; version = c.requires.version }
 
-pub returns-in-NotFive : goal.returns-in-NotFive
-returns-in-NotFive c = no_parts _ (is_not_five _ _ c.five_parts.ensures c.in-NotFive.is)
+pub returns-in_err-five_parts : goal.returns-in_err-five_parts
+returns-in_err-five_parts c = rw c.from_residual.ensures (no_parts _ c.in_err-five_parts.ensures)
