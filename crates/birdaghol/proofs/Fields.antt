@@ -24,7 +24,7 @@ use Rattle.isa.proofs.Lines.{one_bit, source_back}
 use Rattle.isa.proofs.Theorems.{described_is}
 use Rattle.text.specs.Printing.{filled}
 use Rattle.text.proofs.Theorems.{Outcome, fits, short, refused}
-use Rattle.birdaghol.specs.Calls.{answer, sized, operation, packed_encoded, encode_call}
+use Rattle.birdaghol.specs.Calls.{answer, sized, operation, packed_result, encode_call}
 use Rattle.birdaghol.specs.Fields.{numbers_of, numbers_in, field_count, describe_tests, describe_number, describe_missing, describe_call, fields_after, encode_numbers}
 
 -- every description has as many numbers
@@ -98,7 +98,7 @@ numbers_described flags w i p =
     rw d
     (record {
       count = numbers_length i;
-      encodes = λ h rest. let (r, e) = described_is w i h d in encoded_again i rest ∙ ap packed_encoded (encode_in_range i r ∙ ap Ok e);
+      encodes = λ h rest. let (r, e) = described_is w i h d in encoded_again i rest ∙ ap packed_result (encode_in_range i r ∙ ap Ok e);
     })
 
 -- ---- what is left of such an outcome

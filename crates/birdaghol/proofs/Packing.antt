@@ -9,6 +9,7 @@ use lib.ListN.{length}
 use lib.Dec.{eqb}
 use borrow.Author.Tests.{eqb-true, eqb-false}
 use Rattle.std.specs.Prelude.{Err, Ok, Result}
+use Rattle.capture.specs.declared.Contents.{Contents}
 use Rattle.isa.specs.Refusals.{refusal_number, number_in, refusal_in, value_in}
 use Rattle.isa.specs.Claims.{HandsBack}
 use Rattle.isa.specs.declared.Refusal.{Refusal}
@@ -71,17 +72,17 @@ ended-packed m ws e {n} h k =
     p ∙ ap packed_ended h
 
 -- what reading a capture answers, packed
-module _ {file : List ℕ} {before after : Buffers} {a : Result Ok Refusal} where
-  pub read_small : {b : Bench} {n : ℕ} → Reads file before a after → a ≡ Ok b n → (b.flags ≤ 15) × (b.vb ≤ 256) × (n ≤ 65536)
-  read_small q e = contents_small (subst (λ (r : Result Ok Refusal). Reads file before r after) e q)
+module _ {file : List ℕ} {before after : Buffers} {a : Result Contents Refusal} where
+  pub read_small : {c : Contents} → Reads file before a after → a ≡ Ok c → (c.bench.flags ≤ 15) × (c.bench.vb ≤ 256) × (c.words ≤ 65536)
+  read_small q e = contents_small (subst (λ (r : Result Contents Refusal). Reads file before r after) e q)
 
   -- it takes 33 bits, as the number of words reaches 65,536
-  pub contents_fit : {b : Bench} {n v : ℕ} → Reads file before a after → a ≡ Ok b n → v ≡ contents_number b n → v < 2 ^ 33
-  contents_fit {b} {n} q e h = let (f, v, w) = read_small q e in omega (arith, f, v, w, modes-most b.sm b.za)
+  pub contents_fit : {c : Contents} {v : ℕ} → Reads file before a after → a ≡ Ok c → v ≡ contents_number c.bench c.words → v < 2 ^ 33
+  contents_fit {c} q e h = let (f, v, w) = read_small q e in omega (arith, f, v, w, modes-most c.bench.sm c.bench.za)
 
-  pub contents_packed : {b : Bench} {n v : ℕ} → Reads file before a after → a ≡ Ok b n → v ≡ contents_number b n → CaptureReads file before (v * 65536) after
-  contents_packed {b} {n} {v} q e h =
-      record { reading = a; reads = q; is = ap (λ (v : ℕ). v * 65536) h ∙ value_alone (contents_number b n) ∙ sym (ap packed_contents e) }
+  pub contents_packed : {c : Contents} {v : ℕ} → Reads file before a after → a ≡ Ok c → v ≡ contents_number c.bench c.words → CaptureReads file before (v * 65536) after
+  contents_packed {c} q e h =
+      record { reading = a; reads = q; is = ap (λ (v : ℕ). v * 65536) h ∙ value_alone (contents_number c.bench c.words) ∙ sym (ap packed_contents e) }
 
   pub refusal_packed : {r : Refusal} {n : ℕ} → Reads file before a after → a ≡ Err r → n ≡ answer 0 (some r) → CaptureReads file before n after
   refusal_packed q e h = record { reading = a; reads = q; is = h ∙ sym (ap packed_contents e) }

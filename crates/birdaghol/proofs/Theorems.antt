@@ -10,6 +10,7 @@ use lib.Dec.{eqb}
 use lib.ListN.{length}
 use borrow.Author.Tests.{eqb-true, ltb-true, leb-true, eq-eqb, lt-ltb, le-leb}
 use Rattle.std.specs.Prelude.{Err, Ok, Result}
+use Rattle.capture.specs.declared.Contents.{Contents}
 use Rattle.isa.specs.Table.{bit, is_formed, ranges, in_range}
 use Rattle.isa.specs.Refusals.{number, refusal_number, refusal_missing, first_failure, number_in, refusal_in, value_in}
 use Rattle.isa.specs.Answers.{describe, decode_refusal}
@@ -37,8 +38,8 @@ use Rattle.capture.specs.Format.{Capture, modes, bytes_of_capture}
 use Rattle.capture.specs.Outcomes.{write_tests, written, write_of, Buffers, Reads}
 use Rattle.capture.proofs.Captures.{modes-most}
 use Rattle.capture.proofs.Theorems.{contents_small, refused_plain}
-use Rattle.birdaghol.specs.Captures.{packed_written, contents_number, packed_contents, CaptureReads}
-use Rattle.birdaghol.specs.Calls.{answer, sized, operation, packed_encoded, encode_call, asked_predicated, asked_quarter}
+use Rattle.birdaghol.specs.Captures.{contents_number, packed_contents, CaptureReads}
+use Rattle.birdaghol.specs.Calls.{answer, sized, operation, packed_result, encode_call, asked_predicated, asked_quarter}
 use Rattle.birdaghol.specs.Fields.{numbers_in, describe_refusal}
 use Rattle.birdaghol.specs.Claims.{Unpacks, DecodeUnpacks, DescribeUnpacks, PrintUnpacks, ReadUnpacks, ExecuteUnpacks, RunUnpacks, CaptureWriteUnpacks, CaptureReadUnpacks, ElementSize, Formed, PredicatedFits, QuarterFits}
 use Rattle.birdaghol.specs.Claims.{EncodeAnswers, PredicatedAnswers, QuarterAnswers, ZeroAnswers, DescribeAnswers}
@@ -79,7 +80,7 @@ pub capture_write_unpacks : (c : Capture) (room : ℕ) → CaptureWriteUnpacks c
 unfolding write_of
 capture_write_unpacks c room = go (first_failure (write_tests c room)) (plain_sum (write_tests c room) refl)
   where
-    go : (o : Option Refusal) → refusal_missing o ≡ 0 → Unpacks (packed_written (written o (length (bytes_of_capture c)))) (value_in (written o (length (bytes_of_capture c)))) 0 (number_in (written o (length (bytes_of_capture c))))
+    go : (o : Option Refusal) → refusal_missing o ≡ 0 → Unpacks (packed_result (written o (length (bytes_of_capture c)))) (value_in (written o (length (bytes_of_capture c)))) 0 (number_in (written o (length (bytes_of_capture c))))
     go none e = unpacks (length (bytes_of_capture c)) none (omega arith)
     go (some r) e = subst (λ m. Unpacks (answer 0 (some r)) 0 m (number r)) e (unpacks 0 (some r) (rw e (omega arith)))
 
@@ -90,8 +91,10 @@ contents_unpack f m v words a b c = (omega arith, omega arith, omega arith, omeg
 pub capture_read_unpacks : (file : List ℕ) (before after : Buffers) (n : ℕ) (h : CaptureReads file before n after) → CaptureReadUnpacks n h.reading
 capture_read_unpacks file before after n h = go h.reading h.reads h.is
   where
-    go : (r : Result Ok Refusal) → Reads file before r after → n ≡ packed_contents r → CaptureReadUnpacks n r
-    go (Ok b words) q e =
+    go : (r : Result Contents Refusal) → Reads file before r after → n ≡ packed_contents r → CaptureReadUnpacks n r
+    go (Ok c) q e =
+        let b = c.bench in
+        let words = c.words in
         let (f, v, w) = contents_small q in
         let (x, y, z, u) = contents_unpack b.flags (modes b.sm b.za) b.vb words f (modes-most b.sm b.za) v in
         (subst (λ n. Unpacks n (contents_number b words) 0 0) (sym e) (unpacks (contents_number b words) none (omega arith)), record { flags_is = x; modes_is = y; vb_is = z; words_is = u })
@@ -151,11 +154,11 @@ module _ (bytes products : ℕ) (i : Instruction) {Fits : Type 0}
   fitting f =
       let (s, r) = passes f in
       let (w, e, o) = (encodes i).word r in
-      (w, subst (λ a. Unpacks a w 0 0) (sym (rw s (ap packed_encoded e))) (unpacks w none (omega arith)), o)
+      (w, subst (λ a. Unpacks a w 0 0) (sym (rw s (ap packed_result e))) (unpacks w none (omega arith)), o)
 
   unfitting : (Fits → ⊥) → (s r : Bool) → size? bytes products ≡ s → in_range i ≡ r → encode_call (cond s (some i) none) ≡ 11
   unfitting n false r p q = refl
-  unfitting n true false p q = ap packed_encoded (encode_out_of_range i q)
+  unfitting n true false p q = ap packed_result (encode_out_of_range i q)
   unfitting n true true p q = absurd (n (passed p q))
 
   answers : EncodeAnswers (encode_call (sized bytes products i)) i Fits

@@ -3,9 +3,10 @@
 
 ghost use Rattle.std.specs.Prelude.{◌≡◌, cond, [], ◌∷◌, ◌++◌, ◌≤◌, ltb, length, drop};
 ghost use Rattle.std.proofs.Math.Option.{none, some};
+ghost use Rattle.isa.specs.Refusals.{refusal_in};
 ghost use Rattle.text.specs.Printing.{room_after};
 ghost use Rattle.machine.specs.Machine.{on};
-ghost use Rattle.machine.specs.Execution.{after, outcome_refusal};
+ghost use Rattle.machine.specs.Execution.{after};
 ghost use Rattle.machine.specs.Lists.{run_left};
 ghost use Rattle.pairs.specs.Order.{order_matters};
 ghost use Rattle.capture.specs.Format.{capture_of};
@@ -14,11 +15,10 @@ ghost use Rattle.birdaghol.specs.Calls.{answer, decode_call, print_call, read_ca
 ghost use Rattle.birdaghol.specs.Captures.{capture_write_call, contents_number, CaptureReads};
 ghost use Rattle.birdaghol.specs.Fields.{operation_numbers, numbers_of, field_count, describe_call, fields_after};
 
-use capture::Written;
-use isa::{Checked, Decoded, Encoded, Instruction, Operation, Predicate, Refusal, Tile, Vector};
-use machine::{Bench, Outcome};
-use reader::Reading;
-use text::Printed;
+use isa::{
+    Instruction, Operation, Predicate, PredicatedProduct, QuarterProduct, Refusal, Tile, Vector,
+};
+use machine::Bench;
 
 // A refusal takes the lowest byte of an answer, the flags that are missing the next, and the value stands above them.
 const AT_MISSING: u64 = 256;
@@ -47,8 +47,8 @@ pub fn birdaghol_decode(flags: u32, word: u32) -> u64
     ensures { result ≡ decode_call flags word }
 {
     match isa::check(flags, word) {
-        Checked::Passed => 0,
-        Checked::Refused(r) => refused(r),
+        Ok(()) => 0,
+        Err(r) => refused(r),
     }
 }
 
@@ -59,8 +59,8 @@ pub fn birdaghol_describe(flags: u32, word: u32, fields: &mut [u32]) -> u64
     ensures fields_after { fields.new ≡ fields_after flags word fields.old }
 {
     match isa::decode(flags, word) {
-        Decoded::Accepted(i) => hand_out(i, fields),
-        Decoded::Refused(r) => refused(r),
+        Ok(i) => hand_out(i, fields),
+        Err(r) => refused(r),
     }
 }
 
@@ -70,8 +70,8 @@ pub fn birdaghol_print(flags: u32, word: u32, room: &mut [u8]) -> u64
     ensures room_after { room.new ≡ room_after flags word room.old }
 {
     match text::print(flags, word, room) {
-        Printed::Length(n) => n as u64 * AT_VALUE,
-        Printed::Refused(r) => refused(r),
+        Ok(n) => n as u64 * AT_VALUE,
+        Err(r) => refused(r),
     }
 }
 
@@ -80,8 +80,8 @@ pub fn birdaghol_read(flags: u32, line: &[u8]) -> u64
     ensures { result ≡ read_call flags line.now }
 {
     match reader::read(flags, line) {
-        Reading::Word(w) => w as u64 * AT_VALUE,
-        Reading::Refused(r) => refused(r),
+        Ok(w) => w as u64 * AT_VALUE,
+        Err(r) => refused(r),
     }
 }
 
@@ -107,14 +107,14 @@ pub fn birdaghol_encode_predicated(
         second_unsigned,
         subtract,
     );
-    let i = Instruction::Predicated {
+    let i = Instruction::Predicated(PredicatedProduct {
         op,
         tile: Tile(tile),
         pn: Predicate(pn),
         pm: Predicate(pm),
         zn: Vector(zn),
         zm: Vector(zm),
-    };
+    });
     encode_sized(element_bytes, products, i)
 }
 
@@ -140,12 +140,12 @@ pub fn birdaghol_encode_quarter(
         second_unsigned,
         subtract,
     );
-    let i = Instruction::Quarter {
+    let i = Instruction::Quarter(QuarterProduct {
         op,
         tile: Tile(tile),
         first: isa::source_of(first_pair, first),
         second: isa::source_of(second_pair, second),
-    };
+    });
     encode_sized(element_bytes, products, i)
 }
 
@@ -209,8 +209,8 @@ pub fn birdaghol_capture_write(
     ensures file_after { file.new ≡ room_written (capture_of (bench_of flags streaming za_on vb) words.now z.now p.now za.now) file.old }
 {
     match capture::write(bench_of(flags, streaming, za_on, vb), words, z, p, za, file) {
-        Written::Length(n) => n as u64 * AT_VALUE,
-        Written::Refused(r) => refused(r),
+        Ok(n) => n as u64 * AT_VALUE,
+        Err(r) => refused(r),
     }
 }
 
@@ -225,8 +225,8 @@ pub fn birdaghol_capture_read(
     ensures { CaptureReads file.now (buffers words.old z.old p.old za.old) result (buffers words.new z.new p.new za.new) }
 {
     match capture::read(file, words, z, p, za) {
-        capture::Reading::Contents { bench, words: n } => contents_number(bench, n) * AT_VALUE,
-        capture::Reading::Refused(r) => refused(r),
+        Ok(contents) => contents_number(contents.bench, contents.words) * AT_VALUE,
+        Err(r) => refused(r),
     }
 }
 
@@ -286,12 +286,12 @@ fn refused(r: Refusal) -> u64
 }
 
 // The same of an outcome, 0 for none.
-fn refusal_of(o: Outcome) -> u64
-    ensures { result ≡ answer 0 (outcome_refusal o) }
+fn refusal_of(o: Result<(), Refusal>) -> u64
+    ensures { result ≡ answer 0 (refusal_in o) }
 {
     match o {
-        Outcome::Done => 0,
-        Outcome::Refused(r) => refused(r),
+        Ok(()) => 0,
+        Err(r) => refused(r),
     }
 }
 
@@ -311,8 +311,8 @@ fn encode(i: Instruction) -> u64
     ensures { result ≡ encode_call (some i) }
 {
     match isa::encode(i) {
-        Encoded::Word(w) => w as u64 * AT_VALUE,
-        Encoded::Refused(r) => refused(r),
+        Ok(w) => w as u64 * AT_VALUE,
+        Err(r) => refused(r),
     }
 }
 
@@ -325,7 +325,7 @@ fn hand_out(i: Instruction, fields: &mut [u32]) -> u64
         return refused(Refusal::Room);
     }
     let numbers = numbers_of(i);
-    copy(&numbers, fields);
+    fields[..FIELDS].copy_from_slice(&numbers);
     0
 }
 
@@ -333,27 +333,17 @@ fn numbers_of(i: Instruction) -> [u32; FIELDS]
     ensures { result ≡ numbers_of i }
 {
     match i {
-        Instruction::Predicated {
-            op,
-            tile,
-            pn,
-            pm,
-            zn,
-            zm,
-        } => outer_numbers(PREDICATED, op, tile, pn.0, pm.0, zn.0, zm.0),
-        Instruction::Quarter {
-            op,
-            tile,
-            first,
-            second,
-        } => outer_numbers(
+        Instruction::Predicated(p) => {
+            outer_numbers(PREDICATED, p.op, p.tile, p.pn.0, p.pm.0, p.zn.0, p.zm.0)
+        }
+        Instruction::Quarter(q) => outer_numbers(
             QUARTER,
-            op,
-            tile,
-            isa::register_of(first),
-            isa::is_pair(first) as u32,
-            isa::register_of(second),
-            isa::is_pair(second) as u32,
+            q.op,
+            q.tile,
+            isa::register_of(q.first),
+            isa::is_pair(q.first) as u32,
+            isa::register_of(q.second),
+            isa::is_pair(q.second) as u32,
         ),
         Instruction::Zero(mask) => [ZERO, mask as u32, 0, 0, 0, 0, 0, 0, 0, 0, 0],
     }
@@ -384,16 +374,4 @@ fn outer_numbers(
         c,
         d,
     ]
-}
-
-// The numbers to the start of fields.
-fn copy(numbers: &[u32], fields: &mut [u32])
-    requires { length numbers.now ≤ length fields.old }
-    ensures { fields.new ≡ numbers.now ++ drop (length numbers.now) fields.old }
-{
-    let mut i = 0;
-    while i < numbers.len() {
-        fields[i] = numbers[i];
-        i += 1;
-    }
 }

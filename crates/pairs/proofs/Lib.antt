@@ -1,5 +1,4 @@
 pub mod Below
-use Rattle.capture.specs.declared.Contents.{Contents}
 pub mod Tiles
 pub mod Known
 pub mod Carries

@@ -61,27 +61,27 @@ outer_word m w h q = go (describe w) refl
 
     go : (d : Option Instruction) → describe w ≡ d → Outer m w
     go none e = absurd (false≢true (sym (ap is_outer e) ∙ q))
-    go (some (Predicated p)) e =
-        let (s, r) = predicated_ready m fits p (described_in_range w _ e) in
+    go (some (Predicated x)) e =
+        let (s, r) = predicated_ready m fits x (described_in_range w _ e) in
         record {
           accepts = h;
           outer = q;
-          o = predicated_outer op tile pn pm zn zm;
+          o = predicated_outer x;
           is = ap outer_of e;
           names = ap tile_named e;
-          width = element_width op;
+          width = element_width x.op;
           shaped = s;
           ready = r;
         }
-    go (some (Quarter q)) e =
-        let (s, r) = quarter_ready m fits q (described_in_range w _ e) in
+    go (some (Quarter x)) e =
+        let (s, r) = quarter_ready m fits x (described_in_range w _ e) in
         record {
           accepts = h;
           outer = q;
-          o = quarter_outer op tile first second;
+          o = quarter_outer x;
           is = ap outer_of e;
           names = ap tile_named e;
-          width = element_width op;
+          width = element_width x.op;
           shaped = s;
           ready = r;
         }

@@ -14,10 +14,13 @@ use isa::{Instruction, Operation, Tile};
 pub fn order_matters(flags: u32, a: u32, b: u32) -> bool
     ensures { result ≡ order_matters flags a b }
 {
-    match (isa::decode(flags, a), isa::decode(flags, b)) {
-        (Ok(i), Ok(j)) => instructions_clash(i, j),
-        _ => false,
-    }
+    let Ok(i) = isa::decode(flags, a) else {
+        return false;
+    };
+    let Ok(j) = isa::decode(flags, b) else {
+        return false;
+    };
+    instructions_clash(i, j)
 }
 
 // By the tile that the first instruction names; a ZERO names none.

@@ -5,13 +5,13 @@ use borrow.Author.Rules.{rules}
 use Rattle.birdaghol.proofs.birdaghol_capture_read.Goals as goal
 
 pub contents_number-requires : goal.contents_number-requires
-contents_number-requires c = read_small c.read.ensures.reads c.in-Contents.is
+contents_number-requires c = read_small c.read.ensures.reads c.in-Ok.is
 
 pub overflow_mul-result : goal.overflow_mul-result
-overflow_mul-result c = omega (arith, contents_fit c.read.ensures.reads c.in-Contents.is c.contents_number.ensures)
+overflow_mul-result c = omega (arith, contents_fit c.read.ensures.reads c.in-Ok.is c.contents_number.ensures)
 
-pub returns-in-Contents : goal.returns-in-Contents
-returns-in-Contents c = contents_packed c.read.ensures.reads c.in-Contents.is c.contents_number.ensures
+pub returns-in-Ok : goal.returns-in-Ok
+returns-in-Ok c = contents_packed c.read.ensures.reads c.in-Ok.is c.contents_number.ensures
 
 pub returns-in-Err : goal.returns-in-Err
 returns-in-Err c = refusal_packed c.read.ensures.reads c.in-Err.is c.refused.ensures

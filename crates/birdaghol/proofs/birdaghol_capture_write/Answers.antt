@@ -3,7 +3,7 @@ use mathlib.Core.Path.{◌∙◌, sym, ap}
 use native.Mathlib.Omega.{arith}
 use Rattle.capture.specs.Format.{capture_of}
 use Rattle.capture.proofs.Theorems.{written_small}
-use Rattle.birdaghol.specs.Captures.{packed_written}
+use Rattle.birdaghol.specs.Calls.{packed_result}
 use Rattle.birdaghol.proofs.Packing.{value_alone}
 use Rattle.birdaghol.proofs.birdaghol_capture_write.Goals as goal
 
@@ -15,9 +15,9 @@ overflow_mul-result c =
 pub returns-in-Ok : goal.returns-in-Ok
 returns-in-Ok c =
     let e = rw c.bench_of.ensures at c.write.ensures in
-    record { answer = value_alone _ ∙ sym (ap packed_written (sym e.answer ∙ c.in-Ok.is)); file_after = e.room_after }
+    record { answer = value_alone _ ∙ sym (ap packed_result (sym e.answer ∙ c.in-Ok.is)); file_after = e.room_after }
 
 pub returns-in-Err : goal.returns-in-Err
 returns-in-Err c =
     let e = rw c.bench_of.ensures at c.write.ensures in
-    record { answer = c.refused.ensures ∙ sym (ap packed_written (sym e.answer ∙ c.in-Err.is)); file_after = e.room_after }
+    record { answer = c.refused.ensures ∙ sym (ap packed_result (sym e.answer ∙ c.in-Err.is)); file_after = e.room_after }

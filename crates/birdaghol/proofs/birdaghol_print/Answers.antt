@@ -3,7 +3,7 @@ use mathlib.Core.Path.{◌∙◌, sym, ap}
 use mathlib.Core.List.{List}
 use Prim.Native.Nat.{ℕ}
 use native.Mathlib.Omega.{arith}
-use Rattle.birdaghol.specs.Calls.{packed_printed}
+use Rattle.birdaghol.specs.Calls.{packed_result}
 use Rattle.birdaghol.proofs.Packing.{value_alone, printed_short}
 use borrow.Author.Rules.{rules}
 use Rattle.birdaghol.proofs.birdaghol_print.Goals as goal
@@ -14,9 +14,9 @@ overflow_mul-result c = omega (arith, printed_short _ _ c.args.room.now _ (sym c
 pub returns-in-Ok : goal.returns-in-Ok
 returns-in-Ok c =
     let e = c.print.ensures in
-    record { answer = value_alone _ ∙ sym (ap packed_printed (sym e.answer ∙ c.in-Ok.is)); room_after = e.room_after }
+    record { answer = value_alone _ ∙ sym (ap packed_result (sym e.answer ∙ c.in-Ok.is)); room_after = e.room_after }
 
 pub returns-in-Err : goal.returns-in-Err
 returns-in-Err c =
     let e = c.print.ensures in
-    record { answer = c.refused.ensures ∙ sym (ap packed_printed (sym e.answer ∙ c.in-Err.is)); room_after = e.room_after }
+    record { answer = c.refused.ensures ∙ sym (ap packed_result (sym e.answer ∙ c.in-Err.is)); room_after = e.room_after }

@@ -1,11 +1,11 @@
 -- `birdaghol::encode` meets its contract: encode's answer, packed. Assumes nothing.
 use mathlib.Core.Path.{◌∙◌, sym, ap}
-use Rattle.birdaghol.specs.Calls.{packed_encoded}
+use Rattle.birdaghol.specs.Calls.{packed_result}
 use Rattle.birdaghol.proofs.Packing.{value_alone}
 use Rattle.birdaghol.proofs.encode.Goals as goal
 
 pub returns-in-Ok : goal.returns-in-Ok
-returns-in-Ok c = value_alone _ ∙ sym (ap packed_encoded (sym c.encode.ensures.answer ∙ c.in-Ok.is))
+returns-in-Ok c = value_alone _ ∙ sym (ap packed_result (sym c.encode.ensures.answer ∙ c.in-Ok.is))
 
 pub returns-in-Err : goal.returns-in-Err
-returns-in-Err c = c.refused.ensures ∙ sym (ap packed_encoded (sym c.encode.ensures.answer ∙ c.in-Err.is))
+returns-in-Err c = c.refused.ensures ∙ sym (ap packed_result (sym c.encode.ensures.answer ∙ c.in-Err.is))

@@ -21,20 +21,17 @@ unfolding order_matters
 by_decode flags a b d e p q = ap₂ (λ x y. clash (tile_decoded x) (tile_decoded y)) p q
 
 pub instructions_clash-requires : goal.instructions_clash-requires
-instructions_clash-requires c = (accepted_in_range _ _ _ (sym c.decode.ensures.answer ∙ c.in-Ok.is), accepted_in_range _ _ _ (sym c.decode-in-Ok.ensures.answer ∙ c.in-Ok-decode.is))
+instructions_clash-requires c = (accepted_in_range _ _ _ (sym c.in-Ok.ensures.answer), accepted_in_range _ _ _ (sym c.in-Ok-decode.ensures.answer))
 
-pub returns-in-Err : goal.returns-in-Err
-returns-in-Err c =
-    let a = c.args in
-    sym (by_decode a.flags a.a a.b _ _ (sym c.decode.ensures.answer ∙ c.in-Err.is) refl)
+pub returns-in_default : goal.returns-in_default
+returns-in_default c = let a = c.args in sym (by_decode a.flags a.a a.b _ _ (sym c.in_default.ensures.answer) refl)
 
-pub returns-in-Err-decode : goal.returns-in-Err-decode
-returns-in-Err-decode c =
+pub returns-in_default-decode : goal.returns-in_default-decode
+returns-in_default-decode c =
     let a = c.args in
-    sym (by_decode a.flags a.a a.b _ _ (sym c.decode.ensures.answer ∙ c.in-Ok.is) (sym c.decode-in-Ok.ensures.answer ∙ c.in-Err-decode.is)
-    ∙ clash-none (tile_named (some c.in-Ok.i)))
+    sym (by_decode a.flags a.a a.b _ _ (sym c.in-Ok.ensures.answer) (sym c.in_default-decode.ensures.answer) ∙ clash-none (tile_named (some c.in-Ok.i)))
 
-pub returns-in-Ok-decode : goal.returns-in-Ok-decode
-returns-in-Ok-decode c =
+pub returns : goal.returns
+returns c =
     let a = c.args in
-    c.instructions_clash.ensures ∙ sym (by_decode a.flags a.a a.b _ _ (sym c.decode.ensures.answer ∙ c.in-Ok.is) (sym c.decode-in-Ok.ensures.answer ∙ c.in-Ok-decode.is))
+    c.instructions_clash.ensures ∙ sym (by_decode a.flags a.a a.b _ _ (sym c.in-Ok.ensures.answer) (sym c.in-Ok-decode.ensures.answer))
