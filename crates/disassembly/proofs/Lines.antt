@@ -1,5 +1,7 @@
 -- A line: how long its parts are, and what is said of a word, by what decode answers with every feature on. Assumes nothing.
-use Rattle.std.proofs.Common.{◌≡◌, ℕ, ◌+◌, ◌%◌, ◌^◌, ◌≤◌, Bool, true, false, cond, List, ◌++◌, length, drop, sym, refl, ◌∙◌, arith, length-append, le-ltb}
+use lib.ListN.{replicate, set}
+use lib.Seq.{paste}
+use Rattle.std.proofs.Common.{◌≡◌, ℕ, zero, suc, ◌+◌, ◌-◌, ◌*◌, ◌/◌, ◌%◌, ◌^◌, ◌≤◌, ◌<◌, Bool, true, false, cond, List, ◌++◌, length, drop, sym, refl, ◌∙◌, arith, length-append, le-ltb}
 use mathlib.Core.Option.{none, some}
 use native.Mathlib.Nat.{mod-mod}
 use Rattle.std.specs.Prelude.{Err, Ok, Result}
@@ -16,7 +18,7 @@ use Rattle.text.specs.Spelling.{spelling}
 use Rattle.text.specs.Printing.{text_of, print_of, room_after}
 use Rattle.text.proofs.Rooms.{accepted_text, print_accepted, room-accepted, print_refused, unfilled}
 use Rattle.text.proofs.Lengths.{line-between}
-use Rattle.disassembly.specs.Listing.{hexadecimal, field, said, line_feed, line}
+use Rattle.disassembly.specs.Listing.{hex_digit, hexadecimal, field, said, line_feed, line}
 use Rattle.disassembly.specs.Pieces.{longest_line}
 
 -- ---- what is said of a word
@@ -89,6 +91,19 @@ said_short w = go (decode_of all_flags w) refl
     go : (a : Result Instruction Refusal) → decode_of all_flags w ≡ a → length (said w) ≤ 47
     go (Ok i) p = rw (said-accepted w i p) (line-between i (accepted_in_range all_flags w i p)).high
     go (Err r) p = rw (said_refused w r p) (omega arith)
+
+-- ---- a digit more of a number, put over spaces
+pub digit_more : (v i : ℕ) → i < 8 → set (paste (replicate 9 32) 0 (hexadecimal 8 v) i) i (hex_digit (v / 2 ^ (28 - 4 * i) % 16)) ≡ paste (replicate 9 32) 0 (hexadecimal 8 v) (i + 1)
+unfolding hexadecimal
+digit_more v zero h = refl
+digit_more v (suc zero) h = refl
+digit_more v (suc (suc zero)) h = refl
+digit_more v (suc (suc (suc zero))) h = refl
+digit_more v (suc (suc (suc (suc zero)))) h = refl
+digit_more v (suc (suc (suc (suc (suc zero))))) h = refl
+digit_more v (suc (suc (suc (suc (suc (suc zero)))))) h = refl
+digit_more v (suc (suc (suc (suc (suc (suc (suc zero))))))) h = refl
+digit_more v (suc (suc (suc (suc (suc (suc (suc (suc i)))))))) h = absurd (omega arith)
 
 -- ---- lengths
 pub field-length : (v : ℕ) → length (field v) ≡ 9

@@ -1,10 +1,23 @@
 // The bytes that are to be listed: those of a word begun, and behind them those of a piece.
-ghost use Rattle.std.specs.Prelude.{◌≡◌, ◌+◌, ◌<◌, ◌≤◌, [], ◌∷◌, ◌++◌, length, drop, slice_index, slice_index_or};
+ghost use Rattle.std.specs.Prelude.{◌≡◌, ℕ, List, ◌+◌, ◌^◌, ◌<◌, ◌≤◌, ◌++◌, length, take, drop, slice_index};
 ghost use Rattle.disassembly.specs.Pieces.{pending, word_from};
 
 use crate::Begun;
+use std::marker::Model;
 
-// How many bytes have come.
+#[derive(Drop)]
+pub(crate) struct Input<'a> {
+    pub(crate) begun: Begun,
+    pub(crate) piece: &'a [u8],
+}
+
+impl<'a> Model for Input<'a> {
+    ghost Value = { List ℕ };
+
+    ghost view = { λ s. pending s.begun ++ s.piece.now };
+}
+
+// How many bytes of a word have come.
 pub(crate) fn count(begun: Begun) -> usize
     ensures answer { result ≡ length (pending begun) }
     ensures upper_bound { result ≤ 3 }
@@ -17,63 +30,62 @@ pub(crate) fn count(begun: Begun) -> usize
     }
 }
 
-// The word whose bytes, the lowest first, stand from i on.
-pub(crate) fn word_at(begun: Begun, piece: &[u8], i: usize) -> u32
-    requires { i + 4 ≤ length (pending begun) + length piece.now }
-    ensures { result ≡ word_from (pending begun ++ piece.now) i }
+// Those bytes, and 0 for each that has not come.
+fn bytes_of(begun: Begun) -> [u8; 3]
+    ensures { take (length (pending begun)) result ≡ pending begun }
 {
-    let a = byte_at(begun, piece, i);
-    let b = byte_at(begun, piece, i + 1);
-    let c = byte_at(begun, piece, i + 2);
-    let d = byte_at(begun, piece, i + 3);
-    let bytes = [a, b, c, d];
-    storage::load_u32(&bytes, 0)
-}
-
-// What is left from i on, three bytes at most.
-pub(crate) fn rest_from(begun: Begun, piece: &[u8], i: usize) -> Begun
-    requires i_in_bounds { i ≤ length (pending begun) + length piece.now }
-    requires piece_len_bound { length (pending begun) + length piece.now < i + 4 }
-    ensures { pending result ≡ drop i (pending begun ++ piece.now) }
-{
-    let left = count(begun) + piece.len() - i;
-    if left == 0 {
-        return Begun::Nothing;
-    }
-    let a = byte_at(begun, piece, i);
-    if left == 1 {
-        return Begun::One(a);
-    }
-    let b = byte_at(begun, piece, i + 1);
-    if left == 2 {
-        return Begun::Two(a, b);
-    }
-    Begun::Three(a, b, byte_at(begun, piece, i + 2))
-}
-
-// Byte i.
-fn byte_at(begun: Begun, piece: &[u8], i: usize) -> u8
-    requires { i < length (pending begun) + length piece.now }
-    ensures { result ≡ slice_index (pending begun ++ piece.now) i }
-{
-    let n = count(begun);
-    if n <= i {
-        return piece[i - n];
-    }
     match begun {
-        Begun::Nothing => 0,
-        Begun::One(a) => a,
-        Begun::Two(a, b) => one_of(i, a, b, 0),
-        Begun::Three(a, b, c) => one_of(i, a, b, c),
+        Begun::Nothing => [0, 0, 0],
+        Begun::One(a) => [a, 0, 0],
+        Begun::Two(a, b) => [a, b, 0],
+        Begun::Three(a, b, c) => [a, b, c],
     }
 }
 
-fn one_of(i: usize, a: u8, b: u8, c: u8) -> u8
-    ensures { result ≡ slice_index_or (a ∷ b ∷ c ∷ []) i c }
-{
-    match i {
-        0 => a,
-        1 => b,
-        _ => c,
+impl<'a> Input<'a> {
+    pub(crate) fn len(&self) -> usize
+        ensures { result ≡ length self.now }
+    {
+        count(self.begun) + self.piece.len()
+    }
+
+    // The word whose bytes, the lowest first, stand from i on.
+    #[tactic(auto, unfolding(storage::specs::Bytes::word))]
+    pub(crate) fn word_at(&self, i: usize) -> u32
+        requires { (i + 4 ≤ length self.now) × (length self.now < 2 ^ 64) }
+        ensures { result ≡ word_from self.now i }
+    {
+        u32::from_le_bytes([
+            self.byte_at(i),
+            self.byte_at(i + 1),
+            self.byte_at(i + 2),
+            self.byte_at(i + 3),
+        ])
+    }
+
+    // What is left from i on, three bytes at most.
+    pub(crate) fn rest_from(&self, i: usize) -> Begun
+        requires i_in_bounds { i ≤ length self.now }
+        requires len_bound { length self.now < i + 4 }
+        ensures { pending result ≡ drop i self.now }
+    {
+        match self.len() - i {
+            0 => Begun::Nothing,
+            1 => Begun::One(self.byte_at(i)),
+            2 => Begun::Two(self.byte_at(i), self.byte_at(i + 1)),
+            _ => Begun::Three(self.byte_at(i), self.byte_at(i + 1), self.byte_at(i + 2)),
+        }
+    }
+
+    // Byte i.
+    fn byte_at(&self, i: usize) -> u8
+        requires { i < length self.now }
+        ensures { result ≡ slice_index self.now i }
+    {
+        let n = count(self.begun);
+        if n <= i {
+            return self.piece[i - n];
+        }
+        bytes_of(self.begun)[i]
     }
 }

@@ -4,15 +4,16 @@
 mod input;
 mod line;
 
-ghost use Rattle.std.specs.Prelude.{◌≡◌, ◌+◌, ◌*◌, ◌/◌, ◌≤◌, min, length};
+ghost use Rattle.std.specs.Prelude.{◌≡◌, ◌+◌, ◌*◌, ◌/◌, ◌≤◌, length};
 ghost use Rattle.std.proofs.lemmas.List.Edits.{sets};
 ghost use Rattle.isa.specs.Refusals.{number_in, missing_beside, value_in};
 ghost use Rattle.disassembly.specs.Pieces.{at_start, joined, lines_for, longest_line, listed_all, list_of, room_listed, finish_of, room_finished, finish_number, finish_missing, finish_length};
 
+use input::Input;
 use isa::Refusal;
 pub use line::{END_LINE, LONGEST_LINE};
 
-// The bytes of a word that have come so far.
+// The bytes of a word that have come so far. A kind for each number of them: an array with a length beside it could have too many.
 #[derive(Clone, Copy)]
 pub enum Begun {
     Nothing,
@@ -54,7 +55,7 @@ pub fn list(place: Place, piece: &[u8], room: &mut [u8]) -> Advance
 {
     let begun = place.begun;
     let most = 4 * (room.len() / LONGEST_LINE) + 3 - input::count(begun);
-    let taken = least(piece.len(), most);
+    let taken = piece.len().min(most);
     list_all(place, &piece[..taken], room)
 }
 
@@ -84,28 +85,23 @@ fn list_all(place: Place, piece: &[u8], room: &mut [u8]) -> Advance
     ensures answer { result ≡ listed_all place piece.now }
     ensures room_after { room.new ≡ sets room.old 0 (lines_for place piece.now) }
 {
-    let begun = place.begun;
-    let total = input::count(begun) + piece.len();
+    let input = Input {
+        begun: place.begun,
+        piece,
+    };
+    let words = input.len() / 4;
     let mut address = place.address;
     let mut at = 0;
-    let mut k = 0;
-    while 4 * k + 4 <= total {
-        at = line::put_line(room, at, address, input::word_at(begun, piece, 4 * k));
-        address = std::num::wrapping_add_u32(address, 4);
-        k += 1;
+    for k in 0..words {
+        at = line::put_line(room, at, address, input.word_at(4 * k));
+        address = address.wrapping_add(4);
     }
     Advance {
         place: Place {
             address,
-            begun: input::rest_from(begun, piece, 4 * k),
+            begun: input.rest_from(4 * words),
         },
         taken: piece.len(),
         written: at,
     }
-}
-
-fn least(a: usize, b: usize) -> usize
-    ensures { result ≡ min a b }
-{
-    if a < b { a } else { b }
 }

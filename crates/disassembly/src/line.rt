@@ -46,20 +46,15 @@ fn put_refusal(room: &mut [u8], at: usize, r: Refusal) -> usize
 }
 
 // Eight hexadecimal digits and a space.
+#[tactic(auto, using(crate::proofs::Lines::digit_more), unfolding(crate::specs::Listing::hexadecimal))]
 fn field(v: u32) -> [u8; 9]
     ensures { result ≡ field_of v }
 {
-    [
-        hex_digit((v >> 28) % 16),
-        hex_digit((v >> 24) % 16),
-        hex_digit((v >> 20) % 16),
-        hex_digit((v >> 16) % 16),
-        hex_digit((v >> 12) % 16),
-        hex_digit((v >> 8) % 16),
-        hex_digit((v >> 4) % 16),
-        hex_digit(v % 16),
-        b' ',
-    ]
+    let mut text = [b' '; 9];
+    for i in 0..8 {
+        text[i] = hex_digit((v >> (28 - 4 * i)) % 16);
+    }
+    text
 }
 
 fn hex_digit(d: u32) -> u8
@@ -73,6 +68,7 @@ fn hex_digit(d: u32) -> u8
 }
 
 // All bytes of text.
+#[tactic(auto, using(crate::proofs::Rooms::put_there))]
 pub(crate) fn put(room: &mut [u8], at: usize, text: &[u8]) -> usize
     requires { at + length text.now ≤ length room.old }
     ensures { Put room.old at room.new result text.now }

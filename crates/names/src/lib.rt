@@ -21,16 +21,12 @@ pub struct TileName {
 pub fn name_of(digit: u16) -> TileName
     ensures { result ≡ name_of digit }
 {
-    if digit < 2 {
-        return named(1, 0);
+    match digit {
+        0..=1 => named(1, 0),
+        2..=3 => named(2, digit - 2),
+        4..=7 => named(4, digit - 4),
+        _ => named(8, digit - 8),
     }
-    if digit < 4 {
-        return named(2, digit - 2);
-    }
-    if digit < 8 {
-        return named(4, digit - 4);
-    }
-    named(8, digit - 8)
 }
 
 fn named(bytes: u32, tile: u16) -> TileName

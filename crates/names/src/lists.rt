@@ -29,13 +29,14 @@ const LISTS: [u16; 256] = [
 ];
 
 // The list of a mask: no shorter one names the same rows.
+// It is a number of digits: `ListOf` says so of the answer, and there is no heap for a list of names.
 pub fn list_of(mask: u8) -> u16
     ensures { ListOf mask result }
 {
     entry(&LISTS, mask)
 }
 
-// The entry of a mask in a table that is right for every mask.
+// The entry of a mask in a table that is right for every mask; a proof can name what a call is lent, and no constant.
 fn entry(lists: &[u16], mask: u8) -> u16
     requires { Table lists.now }
     ensures { ListOf mask result }

@@ -22,13 +22,13 @@ pub slice_bounds-list_all-end : goal.slice_bounds-list_all-end
 slice_bounds-list_all-end c =
     let a = c.args in
     let h = min-le_left (length a.piece.now) (most a.place (length a.room.now)) in
-    let t = taken a.place a.piece.now (length a.room.now) _ _ c.count.ensures.answer c.least-taken.ensures in
-    sym (length-take-le c.least-taken.result a.piece.now (omega arith))
+    let t = taken a.place a.piece.now (length a.room.now) _ _ c.count.ensures.answer c.min-taken.ensures in
+    sym (length-take-le c.min-taken.result a.piece.now (omega arith))
 
 pub list_all-requires : goal.list_all-requires
 list_all-requires c =
     let a = c.args in
-    let t = part_taken a.place a.piece.now (length a.room.now) _ _ c.count.ensures.answer c.least-taken.ensures (λ s. length (joined a.place s)) in
+    let t = part_taken a.place a.piece.now (length a.room.now) _ _ c.count.ensures.answer c.min-taken.ensures (λ s. length (joined a.place s)) in
     omega (arith, t, taken_fits a.place a.piece.now (length a.room.now))
 
 pub returns : goal.returns
@@ -37,7 +37,7 @@ returns c =
     let a = c.args in
     let room = length a.room.now in
     let n = c.count.ensures.answer in
-    let l = c.least-taken.ensures in
+    let l = c.min-taken.ensures in
     let lines = lines_for a.place (taken_part a.place a.piece.now room) in
     record {
       answer = c.list_all.ensures.answer ∙ part_taken a.place a.piece.now room _ _ n l (listed_all a.place);
