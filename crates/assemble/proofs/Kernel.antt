@@ -4,14 +4,13 @@ use mathlib.Core.Bool.{Bool, true, false, cond, ◌&&◌}
 use mathlib.Core.List.{[], ◌∷◌}
 use Prim.Native.Nat.{ℕ, suc, ◌+◌, ◌-◌, ◌≤◌, ◌<◌}
 use native.Mathlib.Omega.{arith}
-use native.Mathlib.Numerals.{add-one}
 use lib.Dec.{eqb}
-use lib.ListN.{length, get_or, take, drop, length-drop, drop_of_length-le}
-use lib.Seq.{drop-cons, drop-drop}
+use lib.ListN.{length, take, drop, length-drop, drop_of_length-le}
+use lib.Seq.{drop-drop}
+use Rattle.std.specs.List.{list_all}
 use Rattle.text.specs.Spelling.{Text}
 use Rattle.checks.specs.Text.{field_length}
-use Rattle.assemble.specs.declared.Assembled.{Assembled}
-use Rattle.assemble.specs.Kernel.{with_byte, lines, is_space, is_blank, is_comment, assembled, count_over}
+use Rattle.assemble.specs.Kernel.{Assembled, with_byte, lines, is_space, is_blank, assembled, count_over}
 
 -- ---- lines
 first_line : (t : Text) → 0 < length t → lines t ≡ take (field_length 10 t) t ∷ lines (drop (suc (field_length 10 t)) t)
@@ -45,22 +44,7 @@ pub count_end : (f : ℕ → Assembled → ℕ) (n : ℕ) (t : Text) (at : ℕ) 
 unfolding lines
 count_end f n t at h = ap (λ (r : Text). count_over f n (lines r)) (drop_of_length-le t h)
 
--- ---- the bytes of a line from i on, by byte i
-module _ (t : Text) (i : ℕ) (h : i < length t) where
-  pub blank_more : is_space (get_or t i 0) ≡ true → is_blank (drop i t) ≡ is_blank (drop (i + 1) t)
-  blank_more e = rw (drop-cons t i 0 h, add-one i, e)
-
-  pub not-blank : is_space (get_or t i 0) ≡ false → is_blank (drop i t) ≡ false
-  not-blank e = rw (drop-cons t i 0 h, e)
-
-pub blank-over : (t : Text) (i : ℕ) → length t ≤ i → is_blank (drop i t) ≡ true
-blank-over t i h = ap is_blank (drop_of_length-le t h)
-
-pub short_line : (t : Text) → length t < 2 → is_comment t ≡ false
-short_line [] h = refl
-short_line (b ∷ []) h = and_false (eqb b 47)
-  where
-    and_false : (a : Bool) → a && false ≡ false
-    and_false true = refl
-    and_false false = refl
-short_line (a ∷ (b ∷ t)) h = absurd (omega arith)
+-- ---- what the library says of all items, said of a blank line
+pub blank-all : (t : Text) → list_all is_space t ≡ is_blank t
+blank-all [] = refl
+blank-all (b ∷ t) = ap (λ (r : Bool). is_space b && r) (blank-all t)

@@ -1,13 +1,12 @@
 -- A kernel as text: its lines, what comes of each, and how many come to words or are refused.
-use Rattle.std.specs.Prelude.{Bool, true, cond, ◌&&◌, ◌||◌, List, [], ◌∷◌, ℕ, eqb, get_or}
+use Rattle.std.specs.Prelude.{Bool, true, cond, ◌&&◌, ◌||◌, List, [], ◌∷◌, ℕ, eqb, get_or, Option, Some, None, Result, Ok, Err}
+use Rattle.isa.specs.declared.Refusal.{Refusal}
 use Rattle.isa.specs.Table.{all_flags}
 use Rattle.text.specs.Spelling.{Text}
 use Rattle.reader.specs.Answers.{read_of}
 use Rattle.reader.specs.declared.Reading.{Reading}
 use Rattle.reader.specs.declared.Reading.TheVariants.{Word as Read, Refused as NotRead}
 use Rattle.checks.specs.Tally.{sum}
-use Rattle.assemble.specs.declared.Assembled.{Assembled}
-use Rattle.assemble.specs.declared.Assembled.TheVariants.{LeftOut, Word, Refused}
 
 -- a byte in front of the first line
 abbrev pub with_byte : ℕ → List Text → List Text
@@ -19,7 +18,10 @@ unfoldable pub lines : Text → List Text
 lines [] = []
 lines (b ∷ t) = cond (eqb b 10) ([] ∷ lines t) (with_byte b (lines t))
 
--- ---- what comes of a line
+-- ---- what comes of a line: a word, or none where the line is left out; or a refusal
+abbrev pub Assembled : Type 0
+Assembled = Result (Option ℕ) Refusal
+
 abbrev pub is_space : ℕ → Bool
 is_space b = eqb b 32 || eqb b 9
 
@@ -33,23 +35,23 @@ abbrev pub is_comment : Text → Bool
 is_comment t = eqb (get_or t 0 0) 47 && eqb (get_or t 1 0) 47
 
 abbrev pub as_read : Reading → Assembled
-as_read (Read w) = Word w
-as_read (NotRead r) = Refused r
+as_read (Read w) = Ok (Some w)
+as_read (NotRead r) = Err r
 
 -- every feature is on
 abbrev pub assembled : Text → Assembled
-assembled t = cond (is_blank t) LeftOut (cond (is_comment t) LeftOut (as_read (read_of all_flags t)))
+assembled t = cond (is_blank t) (Ok None) (cond (is_comment t) (Ok None) (as_read (read_of all_flags t)))
 
 -- ---- how many lines come to words, and how many are refused: one more behind n, modulo 2^64, as the program counts
 abbrev pub words_after : ℕ → Assembled → ℕ
-words_after n LeftOut = n
-words_after n (Word w) = sum n 1
-words_after n (Refused r) = n
+words_after n (Ok None) = n
+words_after n (Ok (Some w)) = sum n 1
+words_after n (Err r) = n
 
 abbrev pub refused_after : ℕ → Assembled → ℕ
-refused_after n LeftOut = n
-refused_after n (Word w) = n
-refused_after n (Refused r) = sum n 1
+refused_after n (Ok None) = n
+refused_after n (Ok (Some w)) = n
+refused_after n (Err r) = sum n 1
 
 abbrev pub count_over : (ℕ → Assembled → ℕ) → ℕ → List Text → ℕ
 count_over f n [] = n

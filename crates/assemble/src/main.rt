@@ -8,17 +8,9 @@ ghost use Rattle.std.specs.Prelude.{◌≡◌};
 ghost use Rattle.checks.specs.Tally.{sum};
 ghost use Rattle.assemble.specs.Kernel.{lines, is_space, is_blank, is_comment, assembled, words_after, refused_after, count_over};
 
-use checks::{Input, STDERR_FILENO, STDOUT_FILENO, one_if, plus};
+use checks::{InputError, STDERR_FILENO, STDOUT_FILENO};
 use isa::Refusal;
 use reader::Reading;
-
-// What comes of a line.
-#[derive(Clone, Copy)]
-pub enum Assembled {
-    LeftOut,
-    Word(u32),
-    Refused(Refusal),
-}
 
 // How many lines came to words, how many of these were written, and how many lines were refused.
 #[derive(Clone, Copy)]
@@ -31,13 +23,13 @@ pub struct Counts {
 fn main(rt: HostRuntime) {
     let mut text = checks::input_room();
     match checks::read_input(&rt, &mut text) {
-        Input::Bytes(n) => report(assemble(checks::first(&text, n))),
-        Input::TooLong => {
+        Ok(n) => report(assemble(checks::first(&text, n))),
+        Err(InputError::TooLong) => {
             tell_number(b"the input has more bytes than ", checks::INPUT_ROOM as u64);
             tell(b", and is not assembled\n");
             report(none());
         }
-        Input::Unreadable => {
+        Err(InputError::Unreadable) => {
             tell(b"the input can't be read to its end, and is not assembled\n");
             report(none());
         }
@@ -64,7 +56,7 @@ fn assemble(text: &[u8]) -> Counts
     let mut at = 0;
     while at < text.len() {
         let end = checks::field_end(text, at, b'\n');
-        line_number = plus(line_number, 1);
+        line_number = line_number.wrapping_add(1);
         counts = take_line(counts, line_number, &text[at..end]);
         if end == text.len() {
             return counts;
@@ -80,53 +72,44 @@ fn take_line(counts: Counts, line_number: u64, line: &[u8]) -> Counts
     ensures refused { result.refused ≡ refused_after counts.refused (assembled line.now) }
 {
     match assemble_line(line) {
-        Assembled::LeftOut => counts,
-        Assembled::Word(w) => take_word(counts, w),
-        Assembled::Refused(refusal) => take_refusal(counts, line_number, refusal),
+        Ok(None) => counts,
+        Ok(Some(w)) => take_word(counts, w),
+        Err(refusal) => take_refusal(counts, line_number, refusal),
     }
 }
 
-fn assemble_line(line: &[u8]) -> Assembled
+// The word of a line, or none where the line is left out.
+fn assemble_line(line: &[u8]) -> Result<Option<u32>, Refusal>
     ensures { result ≡ assembled line.now }
 {
     if is_blank(line) {
-        return Assembled::LeftOut;
+        return Ok(None);
     }
     if is_comment(line) {
-        return Assembled::LeftOut;
+        return Ok(None);
     }
     match reader::read(isa::ALL_FLAGS, line) {
-        Reading::Word(w) => Assembled::Word(w),
-        Reading::Refused(r) => Assembled::Refused(r),
+        Reading::Word(w) => Ok(Some(w)),
+        Reading::Refused(r) => Err(r),
     }
 }
 
 fn is_blank(line: &[u8]) -> bool
     ensures { result ≡ is_blank line.now }
 {
-    let mut i = 0;
-    while i < line.len() {
-        if !is_space(line[i]) {
-            return false;
-        }
-        i += 1;
-    }
-    true
+    line.iter().all(|&byte| is_space(byte))
 }
 
 fn is_space(byte: u8) -> bool
     ensures { result ≡ is_space byte }
 {
-    (byte == b' ') | (byte == b'\t')
+    matches!(byte, b' ' | b'\t')
 }
 
 fn is_comment(line: &[u8]) -> bool
     ensures { result ≡ is_comment line.now }
 {
-    if line.len() < 2 {
-        return false;
-    }
-    (line[0] == b'/') & (line[1] == b'/')
+    line.starts_with(b"//")
 }
 
 fn take_word(counts: Counts, w: u32) -> Counts
@@ -135,21 +118,16 @@ fn take_word(counts: Counts, w: u32) -> Counts
 {
     let written = write_word(counts, w);
     Counts {
-        words: plus(counts.words, 1),
-        written: plus(counts.written, one_if(written)),
-        refused: counts.refused,
+        words: counts.words.wrapping_add(1),
+        written: counts.written.wrapping_add(u64::from(written)),
+        ..counts
     }
 }
 
 // Writes a word, and answers whether it could. Behind one that could not be written none is: it would stand in the
 // wrong place.
 fn write_word(counts: Counts, w: u32) -> bool {
-    if counts.written != counts.words {
-        return false;
-    }
-    let mut bytes = [0u8; 4];
-    storage::store_u32(&mut bytes, 0, w);
-    io::write_all(STDOUT_FILENO, &bytes)
+    counts.written == counts.words && io::write_all(STDOUT_FILENO, &w.to_le_bytes())
 }
 
 fn take_refusal(counts: Counts, line_number: u64, refusal: Refusal) -> Counts
@@ -161,9 +139,8 @@ fn take_refusal(counts: Counts, line_number: u64, refusal: Refusal) -> Counts
     refusals::write_refusal(STDERR_FILENO, refusal);
     tell(b"\n");
     Counts {
-        words: counts.words,
-        written: counts.written,
-        refused: plus(counts.refused, 1),
+        refused: counts.refused.wrapping_add(1),
+        ..counts
     }
 }
 

@@ -6,10 +6,10 @@ mod stdin;
 mod stream;
 mod text;
 
-pub use counts::{count, counted, differing, has, one_if, part, plus, report};
+pub use counts::{count, differing, has, part};
 pub use stdin::{INPUT_ROOM, input_room, read_input};
 pub use stream::{generate, next};
-pub use text::{digit_of, field_end, first, hexadecimal_of, wide};
+pub use text::{field_end, first, hexadecimal_of};
 
 // What the programs read and write, by number.
 pub const STDIN_FILENO: i32 = 0;
@@ -18,16 +18,15 @@ pub const STDOUT_FILENO: i32 = 1;
 
 pub const STDERR_FILENO: i32 = 2;
 
-// Standard input: so many bytes, more than there is room for, or an input that can't be read to its end.
-#[derive(Clone, Copy)]
-pub enum Input {
-    Bytes(usize),
+// Why standard input was not read whole: it has more bytes than there is room for, or it can't be read to its end.
+#[derive(Debug, Clone, Copy, PartialEq, Eq)]
+pub enum InputError {
     TooLong,
     Unreadable,
 }
 
 // How many lines have something to compare, at how many of these it agrees, and how many others are no comments.
-#[derive(Clone, Copy)]
+#[derive(Clone, Copy, Default)]
 pub struct Tally {
     pub lines: u64,
     pub agreed: u64,
@@ -41,12 +40,6 @@ pub enum Outcome {
     Disagreed,
     Malformed,
     Comment,
-}
-
-#[derive(Clone, Copy)]
-pub enum Number {
-    Value(u32),
-    Malformed,
 }
 
 // How a byte of the stream is used: as it is, or as one of those at which signed and unsigned reading part, or as 00 or

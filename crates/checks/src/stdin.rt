@@ -2,7 +2,7 @@
 ghost use Rattle.std.specs.Prelude.{◌≡◌, length, replicate};
 ghost use Rattle.checks.specs.Stdin.{input_room, Fits};
 
-use crate::Input;
+use crate::InputError;
 use std::io::Read;
 
 // The bytes that a program has for its input: seven of the longest lists, a word being nine bytes of text.
@@ -16,25 +16,23 @@ pub fn input_room() -> [u8; INPUT_ROOM]
     [0; INPUT_ROOM]
 }
 
-// Reads all of standard input to the start of room. A read that fails is no end: what came before it is not the input.
-pub fn read_input(rt: &HostRuntime, room: &mut [u8]) -> Input
+// Reads all of standard input to the start of room, and answers how many bytes it has. A read that fails is no end: what came
+// before it is not the input.
+pub fn read_input(rt: &HostRuntime, room: &mut [u8]) -> Result<usize, InputError>
     ensures { Fits result (length room.old) }
 {
     let mut input = rt.stdin();
     let mut chunk = io::large_buffer();
     let mut n = 0;
-    while n <= room.len() {
-        let Ok(more) = input.read(&mut chunk) else {
-            return Input::Unreadable;
-        };
+    loop {
+        let more = input.read(&mut chunk).map_err(|_| InputError::Unreadable)?;
         if more == 0 {
-            return Input::Bytes(n);
+            return Ok(n);
         }
         if room.len() - n < more {
-            return Input::TooLong;
+            return Err(InputError::TooLong);
         }
         room[n..n + more].copy_from_slice(&chunk[..more]);
         n += more;
     }
-    Input::TooLong
 }

@@ -10,11 +10,9 @@ pub fn generate(x: u32, fill: Fill, bytes: &mut [u8]) -> u32
     ensures bytes_after { bytes.new ≡ streamed fill x (length bytes.old) }
 {
     let mut x = x;
-    let mut i = 0;
-    while i < bytes.len() {
+    for byte in bytes.iter_mut() {
         x = next(x);
-        bytes[i] = byte_from(x, fill);
-        i += 1;
+        *byte = byte_from(x, fill);
     }
     x
 }
@@ -23,7 +21,7 @@ pub fn generate(x: u32, fill: Fill, bytes: &mut [u8]) -> u32
 pub fn next(x: u32) -> u32
     ensures { result ≡ step x }
 {
-    ((x as u64 * 1103515245 + 12345) % 0x1_0000_0000) as u32
+    x.wrapping_mul(1103515245).wrapping_add(12345)
 }
 
 // The byte of a place of the stream.

@@ -3,7 +3,7 @@
 // they are. Every feature is on. What is read is listed and written at once. A read or a write that fails is told on standard error.
 #![tactic(auto)]
 
-ghost use Rattle.std.specs.Prelude.{◌≡◌, ◌++◌, ◌-◌, ◌^◌, ◌≤◌, length, drop};
+ghost use Rattle.std.specs.Prelude.{◌≡◌, ◌++◌, ◌≤◌, length, drop};
 ghost use Rattle.disassembly.specs.Pieces.{lines_for, end_for, end_room, listed_all};
 ghost use Rattle.disassembly.specs.Claims.{room_for};
 ghost use Rattle.lister.specs.Reads.{most_read};
@@ -16,27 +16,15 @@ use text::Printed;
 // Room for the lines of what is read at once, 4,096 bytes: 1,024 words.
 const ROOM: usize = 1024 * disassembly::LONGEST_LINE;
 
-// What comes of a read: the listing goes on from a place, or it is over.
-#[derive(Clone, Copy)]
-pub enum Step {
-    On(Place),
-    Over,
-}
-
 fn main(rt: HostRuntime) {
     let mut room = lines_room();
     let mut place = disassembly::start();
-    let mut reads = most_reads();
-    while 0 < reads {
-        match read_and_list(&rt, place, &mut room) {
-            Step::On(p) => {
-                place = p;
-            }
-            Step::Over => {
-                return;
-            }
-        }
-        reads -= 1;
+    // A loop has to end, and nothing says that an input does. No input takes so many reads.
+    for _ in 0..u64::MAX {
+        let Some(behind) = read_and_list(&rt, place, &mut room) else {
+            return;
+        };
+        place = behind;
     }
     tell(b"the input is read no further, and is not listed whole\n");
 }
@@ -47,33 +35,26 @@ fn lines_room() -> [u8; ROOM]
     [0; ROOM]
 }
 
-// A loop has to end, and nothing says that an input does. No input takes so many reads.
-fn most_reads() -> u64
-    ensures { result ≡ 2 ^ 64 - 1 }
-{
-    u64::MAX
-}
-
-// Reads once, and lists what came. A read that fails is no end.
-fn read_and_list(rt: &HostRuntime, place: Place, room: &mut [u8]) -> Step
+// Reads once, and lists what came. The listing goes on from the place, or is over where there is none. A read that fails is no
+// end.
+fn read_and_list(rt: &HostRuntime, place: Place, room: &mut [u8]) -> Option<Place>
     requires { room_for most_read ≤ length room.old }
 {
     let mut piece = io::buffer();
     let Ok(n) = rt.stdin().read(&mut piece) else {
         tell(b"the input can't be read to its end, and is not listed whole\n");
-        return Step::Over;
+        return None;
     };
     if n == 0 {
         let end = put_end(place, room);
         write(checks::first(room, end));
-        return Step::Over;
+        return None;
     }
     let listed = list_whole(place, &piece[..n], room);
     if !write(checks::first(room, listed.written)) {
-        return Step::Over;
+        return None;
     }
-    let behind = listed.place;
-    Step::On(behind)
+    Some(listed.place)
 }
 
 // Lists all of a piece, at the start of a room that is large enough.

@@ -4,27 +4,20 @@
 // the 7,368,960 words to the same text.
 #![tactic(auto)]
 
-ghost use Rattle.std.specs.Prelude.{◌+◌, ◌≤◌};
-
-use checks::{STDOUT_FILENO, one_if, part, plus};
+use checks::{STDOUT_FILENO, part};
 use reader::Reading;
+use std::ops::Range;
 use text::Printed;
 
-// Where the listed words stand: a first word, and how many to try from it on. The quarter-tile words on 32-bit tiles; the
-// other outer products; ZERO.
-const QUARTER32: u32 = 0x8000_0000;
+// Where the listed words stand: the quarter-tile words on 32-bit tiles; the other outer products; ZERO.
+const QUARTER32: Range<u32> = 0x8000_0000..0x8140_0000;
 
-const QUARTER32_WORDS: u32 = 0x140_0000;
+const OTHERS: Range<u32> = 0xa080_0000..0xa200_0000;
 
-const OTHERS: u32 = 0xa080_0000;
+const ZERO: Range<u32> = 0xc008_0000..0xc008_0100;
 
-const OTHER_WORDS: u32 = 0x180_0000;
-
-const ZERO: u32 = 0xc008_0000;
-
-const ZERO_WORDS: u32 = 0x100;
-
-#[derive(Clone, Copy)]
+// How many lines were listed, their bytes, the sum of these, and how many lines came back as their words.
+#[derive(Clone, Copy, Default)]
 pub struct Listing {
     pub lines: u64,
     pub bytes: u64,
@@ -35,64 +28,56 @@ pub struct Listing {
 fn main() {
     // No text is longer.
     let mut room = [0u8; 47];
-    let quarter32 = list_words(QUARTER32, QUARTER32_WORDS, &mut room);
-    let others = list_words(OTHERS, OTHER_WORDS, &mut room);
-    let zero = list_words(ZERO, ZERO_WORDS, &mut room);
-    report(b"quarter-tile 32: ", quarter32);
-    report(b"other outer products: ", others);
-    report(b"zero: ", zero);
-    report(b"total: ", joined(joined(quarter32, others), zero));
+    let quarter32 = list_words(QUARTER32, &mut room);
+    let others = list_words(OTHERS, &mut room);
+    let zero = list_words(ZERO, &mut room);
+    quarter32.report(b"quarter-tile 32: ");
+    others.report(b"other outer products: ");
+    zero.report(b"zero: ");
+    quarter32.joined(others).joined(zero).report(b"total: ");
 }
 
-fn report(name: &[u8], l: Listing) {
-    io::write_all(STDOUT_FILENO, name);
-    part(b"lines ", l.lines);
-    part(b", bytes ", l.bytes);
-    part(b", sum ", l.sum);
-    part(b", read back ", l.back);
-    io::write_all(STDOUT_FILENO, b"\n");
-}
-
-fn joined(a: Listing, b: Listing) -> Listing {
-    Listing {
-        lines: plus(a.lines, b.lines),
-        bytes: plus(a.bytes, b.bytes),
-        sum: plus(a.sum, b.sum),
-        back: plus(a.back, b.back),
+// The words, each printed into room.
+fn list_words(words: Range<u32>, room: &mut [u8]) -> Listing {
+    let mut listing = Listing::default();
+    for word in words {
+        listing.list(word, room);
     }
+    listing
 }
 
-// The words from first on, each printed into room.
-fn list_words(first: u32, words: u32, room: &mut [u8]) -> Listing
-    requires { first + words ≤ 0xffffffff }
-{
-    let mut l = Listing {
-        lines: 0,
-        bytes: 0,
-        sum: 0,
-        back: 0,
-    };
-    let mut i = 0;
-    while i < words {
-        l = with_word(l, first + i, room);
-        i += 1;
+impl Listing {
+    fn report(self, name: &[u8]) {
+        io::write_all(STDOUT_FILENO, name);
+        part(b"lines ", self.lines);
+        part(b", bytes ", self.bytes);
+        part(b", sum ", self.sum);
+        part(b", read back ", self.back);
+        io::write_all(STDOUT_FILENO, b"\n");
     }
-    l
-}
 
-fn with_word(l: Listing, word: u32, room: &mut [u8]) -> Listing {
-    match text::print(isa::ALL_FLAGS, word, room) {
-        Printed::Length(n) => with_line(l, word, checks::first(room, n)),
-        Printed::Refused(_) => l,
+    fn joined(self, other: Listing) -> Listing {
+        Listing {
+            lines: self.lines.wrapping_add(other.lines),
+            bytes: self.bytes.wrapping_add(other.bytes),
+            sum: self.sum.wrapping_add(other.sum),
+            back: self.back.wrapping_add(other.back),
+        }
     }
-}
 
-fn with_line(l: Listing, word: u32, line: &[u8]) -> Listing {
-    Listing {
-        lines: plus(l.lines, 1),
-        bytes: plus(l.bytes, line.len() as u64),
-        sum: plus(l.sum, sum_of(line)),
-        back: plus(l.back, one_if(reads_as(line, word))),
+    // Counts a word's line, if the word is listed.
+    fn list(&mut self, word: u32, room: &mut [u8]) {
+        match text::print(isa::ALL_FLAGS, word, room) {
+            Printed::Length(n) => self.count(word, checks::first(room, n)),
+            Printed::Refused(_) => {}
+        }
+    }
+
+    fn count(&mut self, word: u32, line: &[u8]) {
+        self.lines = self.lines.wrapping_add(1);
+        self.bytes = self.bytes.wrapping_add(line.len() as u64);
+        self.sum = self.sum.wrapping_add(sum_of(line));
+        self.back = self.back.wrapping_add(u64::from(reads_as(line, word)));
     }
 }
 
@@ -105,9 +90,6 @@ fn reads_as(line: &[u8], word: u32) -> bool {
 
 // The sum of all bytes: each byte of a line is looked at, so that none can be left unwritten.
 fn sum_of(line: &[u8]) -> u64 {
-    let mut sum: u64 = 0;
-    for i in 0..line.len() {
-        sum = plus(sum, checks::wide(line[i]));
-    }
-    sum
+    line.iter()
+        .fold(0, |sum, &byte| sum.wrapping_add(u64::from(byte)))
 }

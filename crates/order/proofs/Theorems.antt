@@ -25,6 +25,7 @@ use Rattle.pairs.specs.Order.{order_matters}
 use Rattle.pairs.specs.Claims.{Bytes, NoneClash}
 use Rattle.pairs.proofs.Below.{below_some}
 use Rattle.pairs.proofs.Theorems.{decides, never_itself, any_order}
+use Rattle.std.specs.Prelude.{Ok}
 use Rattle.order.specs.declared.Verdict.TheVariants.{AnyOrder, AnyOrderBetween}
 use Rattle.order.specs.Pairs.{word_at, paired_with, any_pair, outer_decoded, is_fixed, any_fixed, count_in, ends_in_mid_word, is_too_long, verdict, words_from, words, SameEnd, NoneFixed, Rearranged, behind, before, Means}
 use Rattle.order.proofs.Leaving.{after_bytes, after_flags, played_bytes, played_flags}
@@ -111,14 +112,14 @@ rearranged_same (before ws os free perm w fixed vs us r) fits none m e za =
     split m ws vs w ∙ later ∙ ap (λ (k : Machine). played (after k w) us) first ∙ sym (split m os us w)
 
 -- ---- the verdict
-verdict_any : (p q r s : Bool) → verdict p q r s ≡ AnyOrder → (r ≡ false) × (s ≡ false)
+verdict_any : (p q r s : Bool) → verdict p q r s ≡ Ok AnyOrder → (r ≡ false) × (s ≡ false)
 verdict_any true q r s e = absurd (false≢true cc)
 verdict_any false true r s e = absurd (false≢true cc)
 verdict_any false false true s e = absurd (false≢true cc)
 verdict_any false false false true e = absurd (false≢true cc)
 verdict_any false false false false e = (refl, refl)
 
-verdict-between : (p q r s : Bool) → verdict p q r s ≡ AnyOrderBetween → r ≡ false
+verdict-between : (p q r s : Bool) → verdict p q r s ≡ Ok AnyOrderBetween → r ≡ false
 verdict-between true q r s e = absurd (false≢true cc)
 verdict-between false true r s e = absurd (false≢true cc)
 verdict-between false false true s e = absurd (false≢true cc)

@@ -1,5 +1,5 @@
 -- What `order` finds in a list of words: pairs whose order matters, and words that stay where they are. Every feature is on.
-use Rattle.std.specs.Prelude.{◌≡◌, Bool, true, false, not, cond, ℕ, zero, suc, ◌*◌, ◌/◌, ◌%◌, eqb, ltb, length}
+use Rattle.std.specs.Prelude.{◌≡◌, Bool, true, false, not, cond, ℕ, zero, suc, ◌*◌, ◌/◌, ◌%◌, eqb, ltb, length, Result, Ok, Err}
 use mathlib.Core.List.{List, [], ◌∷◌, ◌++◌, Mem, Permᴰ}
 use Rattle.std.proofs.Math.Option.{some}
 use Rattle.isa.specs.Table.{all_flags}
@@ -13,7 +13,9 @@ use Rattle.machine.specs.Lists.{played, most_words}
 use Rattle.pairs.specs.Order.{some_below, order_matters}
 use Rattle.pairs.specs.Claims.{Bytes}
 use Rattle.order.specs.declared.Verdict.{Verdict}
-use Rattle.order.specs.declared.Verdict.TheVariants.{NotWords, TooLong, OrderMatters, AnyOrder, AnyOrderBetween}
+use Rattle.order.specs.declared.Verdict.TheVariants.{OrderMatters, AnyOrder, AnyOrderBetween}
+use Rattle.order.specs.declared.Unjudged.{Unjudged}
+use Rattle.order.specs.declared.Unjudged.TheVariants.{NotWords, TooLong}
 
 -- word i of the input, its lowest byte first
 abbrev pub word_at : List ℕ → ℕ → ℕ
@@ -47,11 +49,12 @@ ends_in_mid_word bytes = not (eqb (length bytes % 4) 0)
 abbrev pub is_too_long : List ℕ → Bool
 is_too_long bytes = ltb (4 * most_words) (length bytes)
 
--- by these two, in this order, then by whether there is a pair, and a fixed word
-abbrev pub verdict : Bool → Bool → Bool → Bool → Verdict
-verdict broken long paired fixed = cond broken NotWords (cond long TooLong (cond paired OrderMatters (cond fixed AnyOrderBetween AnyOrder)))
+-- nothing by these two, in this order; then by whether there is a pair, and a fixed word
+abbrev pub verdict : Bool → Bool → Bool → Bool → Result Verdict Unjudged
+verdict broken long paired fixed =
+    cond broken (Err NotWords) (cond long (Err TooLong) (cond paired (Ok OrderMatters) (cond fixed (Ok AnyOrderBetween) (Ok AnyOrder))))
 
-abbrev pub verdict_of : List ℕ → Verdict
+abbrev pub verdict_of : List ℕ → Result Verdict Unjudged
 verdict_of bytes = verdict (ends_in_mid_word bytes) (is_too_long bytes) (any_pair bytes (count_in bytes)) (any_fixed bytes (count_in bytes))
 
 -- ---- what it means: the list in another order leaves the same, from any ZA, executed one at a time
@@ -75,5 +78,5 @@ pub data Rearranged : List ℕ → List ℕ → Type 0 where
       → Rearranged (ws ++ (w ∷ vs)) (os ++ (w ∷ us))
 
 pub record Means (bytes : List ℕ) : Type 0 where
-  pub any_order : verdict_of bytes ≡ AnyOrder → (os : List ℕ) → Permᴰ (words bytes) os → SameEnd (words bytes) os
-  pub between_fixed : verdict_of bytes ≡ AnyOrderBetween → (os : List ℕ) → Rearranged (words bytes) os → SameEnd (words bytes) os
+  pub any_order : verdict_of bytes ≡ Ok AnyOrder → (os : List ℕ) → Permᴰ (words bytes) os → SameEnd (words bytes) os
+  pub between_fixed : verdict_of bytes ≡ Ok AnyOrderBetween → (os : List ℕ) → Rearranged (words bytes) os → SameEnd (words bytes) os

@@ -10,69 +10,93 @@ ghost use Rattle.machine.specs.Instructions.{is_outer};
 ghost use Rattle.pairs.specs.Order.{some_below, order_matters};
 ghost use Rattle.order.specs.Pairs.{word_at, paired_with, any_pair, is_fixed, any_fixed, count_in, verdict_of};
 
-use checks::{Input, STDERR_FILENO, STDOUT_FILENO, part};
+use checks::{InputError, STDERR_FILENO, STDOUT_FILENO, part};
 use isa::{Decoded, Instruction, Refusal};
 use text::Printed;
 
 // What is said of a list.
 #[derive(Clone, Copy)]
 pub enum Verdict {
-    NotWords,
-    TooLong,
     OrderMatters,
     AnyOrder,
     AnyOrderBetween,
 }
 
-fn main(rt: HostRuntime) {
-    let mut room = checks::input_room();
-    match checks::read_input(&rt, &mut room) {
-        Input::Bytes(n) => {
-            let bytes = checks::first(&room, n);
-            pronounce(judge(bytes), bytes.len() / 4);
+// Why nothing is said of it.
+#[derive(Clone, Copy)]
+pub enum Unjudged {
+    NotWords,
+    TooLong,
+    Unreadable,
+}
+
+impl From<InputError> for Unjudged {
+    fn from(error: InputError) -> Unjudged {
+        match error {
+            InputError::TooLong => Unjudged::TooLong,
+            InputError::Unreadable => Unjudged::Unreadable,
         }
-        Input::TooLong => pronounce(Verdict::TooLong, 0),
-        Input::Unreadable => tell(b"the input can't be read to its end, and is not judged\n"),
     }
 }
 
+fn main(rt: HostRuntime) {
+    let mut room = checks::input_room();
+    if let Err(why) = judge_input(&rt, &mut room) {
+        tell_why(why);
+    }
+}
+
+// Judges what is on standard input, and says what comes of it.
+fn judge_input(rt: &HostRuntime, room: &mut [u8]) -> Result<(), Unjudged> {
+    let n = checks::read_input(rt, room)?;
+    let bytes = checks::first(room, n);
+    let verdict = judge(bytes)?;
+    pronounce(verdict, bytes.len() / 4);
+    Ok(())
+}
+
 // Judges a list of whole words, not longer than a run's; its fixed words and its pairs are named on the way.
-fn judge(bytes: &[u8]) -> Verdict
+fn judge(bytes: &[u8]) -> Result<Verdict, Unjudged>
     ensures { result ≡ verdict_of bytes.now }
 {
     if bytes.len() % 4 != 0 {
-        return Verdict::NotWords;
+        return Err(Unjudged::NotWords);
     }
     if 4 * machine::MOST_WORDS < bytes.len() {
-        return Verdict::TooLong;
+        return Err(Unjudged::TooLong);
     }
     let fixed = name_fixed_words(bytes);
     if name_pairs(bytes) {
-        return Verdict::OrderMatters;
+        return Ok(Verdict::OrderMatters);
     }
     if fixed {
-        return Verdict::AnyOrderBetween;
+        return Ok(Verdict::AnyOrderBetween);
     }
-    Verdict::AnyOrder
+    Ok(Verdict::AnyOrder)
 }
 
 // What the verdict says beside the pairs that were named.
 fn pronounce(verdict: Verdict, words: usize) {
     match verdict {
-        Verdict::NotWords => tell(b"the input ends in the middle of a word, and is not judged\n"),
-        Verdict::TooLong => {
+        Verdict::OrderMatters => {}
+        Verdict::AnyOrder => write(b"any order gives the same ZA\n"),
+        Verdict::AnyOrderBetween => {
+            write(b"any order that moves no word past a fixed one gives the same ZA\n");
+        }
+    }
+    count_words(words);
+}
+
+fn tell_why(why: Unjudged) {
+    match why {
+        Unjudged::NotWords => tell(b"the input ends in the middle of a word, and is not judged\n"),
+        Unjudged::TooLong => {
             tell(b"the list has more words than ");
             io::print_decimal(STDERR_FILENO, machine::MOST_WORDS as u64);
             tell(b", and is not judged\n");
         }
-        Verdict::OrderMatters => count_words(words),
-        Verdict::AnyOrder => {
-            write(b"any order gives the same ZA\n");
-            count_words(words);
-        }
-        Verdict::AnyOrderBetween => {
-            write(b"any order that moves no word past a fixed one gives the same ZA\n");
-            count_words(words);
+        Unjudged::Unreadable => {
+            tell(b"the input can't be read to its end, and is not judged\n");
         }
     }
 }
@@ -91,10 +115,8 @@ fn name_pairs(bytes: &[u8]) -> bool
     ensures { result ≡ any_pair bytes.now (count_in bytes.now) }
 {
     let mut found = false;
-    let mut i = 0;
-    while i < bytes.len() / 4 {
+    for i in 0..bytes.len() / 4 {
         found = name_pairs_with(bytes, i) | found;
-        i += 1;
     }
     found
 }
@@ -106,10 +128,8 @@ fn name_pairs_with(bytes: &[u8], i: usize) -> bool
 {
     let later = word_at(bytes, i);
     let mut found = false;
-    let mut j = 0;
-    while j < i {
+    for j in 0..i {
         found = name_pair(j, word_at(bytes, j), i, later) | found;
-        j += 1;
     }
     found
 }
@@ -133,10 +153,8 @@ fn name_fixed_words(bytes: &[u8]) -> bool
     ensures { result ≡ any_fixed bytes.now (count_in bytes.now) }
 {
     let mut found = false;
-    let mut i = 0;
-    while i < bytes.len() / 4 {
+    for i in 0..bytes.len() / 4 {
         found = name_if_fixed(i, word_at(bytes, i)) | found;
-        i += 1;
     }
     found
 }
@@ -210,7 +228,7 @@ fn write_word(i: usize, word: u32) {
 
 // The first word is word 1.
 fn write_place(i: usize) {
-    part(b"word ", checks::plus(i as u64, 1));
+    part(b"word ", (i as u64).wrapping_add(1));
     write(b", ");
 }
 

@@ -6,6 +6,8 @@ use native.Mathlib.Nat.{mul-le-mul}
 use native.Mathlib.Omega.{arith}
 use lib.ListN.{length, take, drop, length-append}
 use lib.Seq.{sets, take-suc, length-take-le}
+use Rattle.std.specs.Prelude.{Result, Ok}
+use Rattle.isa.specs.declared.Refusal.{Refusal}
 use Rattle.storage.specs.Bytes.{at}
 use Rattle.storage.proofs.Bytes.{sets_append}
 use Rattle.storage.specs.Sizes.{za_size}
@@ -19,8 +21,6 @@ use Rattle.capture.proofs.Writing.{put_over}
 use Rattle.capture.proofs.Theorems.{read_then_write, There, contents_there}
 use Rattle.picture.specs.Images.{pixel, pixels, header, image, longest_image, Shows}
 use Rattle.picture.specs.Images.Shows.{drawn}
-use Rattle.picture.specs.declared.Shown.{Shown}
-use Rattle.picture.specs.declared.Shown.TheVariants.{Drawn}
 
 length-pixels : (q : ℕ) (vs : List ℕ) → length (pixels q vs) ≡ 4 * length vs
 unfolding pixels
@@ -65,8 +65,8 @@ module _ {file : List ℕ} {before after : Buffers} {a : Reading} (q : Reads fil
     there = contents_there q e
 
     pub show_drawn : (room next : List ℕ) (m : ℕ) → longest_image ≤ length room → m ≡ 15 + 4 * length (take (za_size b.vb) after.za)
-        → next ≡ sets (header b.vb ++ drop 15 room) 15 (pixels 0 (take (za_size b.vb) after.za)) → Shows file room (Drawn m) next
+        → next ≡ sets (header b.vb ++ drop 15 room) 15 (pixels 0 (take (za_size b.vb) after.za)) → Shows file room (Ok m) next
     show_drawn room next m l k h =
         let c = in_buffers b n after in
         let s : 15 + 4 * length c.za ≤ length room = omega (arith, there.za, mul-le-mul there.vb_most there.vb_most) in
-        drawn c (read_then_write file before after b n reads).holds (ap {B = Shown} Drawn (k ∙ sym (length-image c room))) (h ∙ drawn_over c room s)
+        drawn c (read_then_write file before after b n reads).holds (ap {B = Result ℕ Refusal} Ok (k ∙ sym (length-image c room))) (h ∙ drawn_over c room s)

@@ -1,11 +1,9 @@
 -- ZA as a plain PGM image: a header, then a decimal number for each byte, in three places, and 16 to a line, as no line of such an
 -- image should pass 70 bytes.
-use Rattle.std.specs.Prelude.{◌≡◌, cond, List, [], ◌∷◌, ◌++◌, ℕ, suc, ◌+◌, ◌/◌, ◌%◌, eqb, ltb, length}
+use Rattle.std.specs.Prelude.{◌≡◌, cond, List, [], ◌∷◌, ◌++◌, ℕ, suc, ◌+◌, ◌/◌, ◌%◌, eqb, ltb, length, Result, Ok, Err}
 use Rattle.isa.specs.declared.Refusal.{Refusal}
 use Rattle.capture.specs.Format.{Capture, Holds}
 use Rattle.capture.specs.Outcomes.{over, Refuses}
-use Rattle.picture.specs.declared.Shown.{Shown}
-use Rattle.picture.specs.declared.Shown.TheVariants.{Drawn, Refused}
 
 -- the digit of a unit, or a space before the number
 abbrev pub digit : ℕ → ℕ → ℕ
@@ -37,6 +35,6 @@ abbrev pub longest_image : ℕ
 longest_image = 262159
 
 -- what is answered, and what stands in the room then: nothing new where the file is refused
-pub data Shows (file before : List ℕ) (r : Shown) (after : List ℕ) : Type 0 where
-  drawn : (c : Capture) → Holds file c → r ≡ Drawn (length (image c)) → after ≡ over (image c) before → Shows file before r after
-  refused : (q : Refusal) → Refuses file q → r ≡ Refused q → after ≡ before → Shows file before r after
+pub data Shows (file before : List ℕ) (r : Result ℕ Refusal) (after : List ℕ) : Type 0 where
+  drawn : (c : Capture) → Holds file c → r ≡ Ok (length (image c)) → after ≡ over (image c) before → Shows file before r after
+  refused : (q : Refusal) → Refuses file q → r ≡ Err q → after ≡ before → Shows file before r after

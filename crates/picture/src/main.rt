@@ -8,7 +8,7 @@ ghost use Rattle.capture.specs.Outcomes.{buffers, Roomy};
 ghost use Rattle.picture.specs.Images.{digit, separator, pixel, pixels, header, longest_image, Shows};
 
 use capture::Reading;
-use checks::{Input, STDERR_FILENO, STDOUT_FILENO};
+use checks::{InputError, STDERR_FILENO, STDOUT_FILENO};
 use isa::Refusal;
 
 // The bytes of the header, those of a pixel, a number in three places and what stands behind it, and those of the largest image.
@@ -18,20 +18,15 @@ const PIXEL: usize = 4;
 
 const LONGEST: usize = 262159;
 
-// What comes of a file: an image of so many bytes stands in a room, or it is refused.
-#[derive(Clone, Copy)]
-pub enum Shown {
-    Drawn(usize),
-    Refused(Refusal),
-}
-
 fn main(rt: HostRuntime) {
     let mut input = checks::input_room();
     match checks::read_input(&rt, &mut input) {
-        Input::Bytes(n) => show(checks::first(&input, n)),
+        Ok(n) => show(checks::first(&input, n)),
         // No capture is as long as the room, and its first byte, which is the version, stands there.
-        Input::TooLong => show(&input),
-        Input::Unreadable => tell(b"the input can't be read to its end, and is not shown\n"),
+        Err(InputError::TooLong) => show(&input),
+        Err(InputError::Unreadable) => {
+            tell(b"the input can't be read to its end, and is not shown\n");
+        }
     }
 }
 
@@ -42,12 +37,12 @@ fn show(file: &[u8]) {
     let mut za = capture::tiles_room();
     let mut room = image_room();
     match show_file(file, &mut words, &mut z, &mut p, &mut za, &mut room) {
-        Shown::Refused(r) => {
+        Err(r) => {
             tell(b"refused ");
             refusals::write_refusal(STDERR_FILENO, r);
             tell(b"\n");
         }
-        Shown::Drawn(length) => {
+        Ok(length) => {
             if !io::write_all(STDOUT_FILENO, checks::first(&room, length)) {
                 tell(b"standard output did not take the whole image\n");
             }
@@ -61,7 +56,7 @@ fn image_room() -> [u8; LONGEST]
     [0; LONGEST]
 }
 
-// Reads a file, and puts the image of its ZA at the start of room.
+// Reads a file, puts the image of its ZA at the start of room, and answers how many bytes that has.
 fn show_file(
     file: &[u8],
     words: &mut [u32],
@@ -69,15 +64,15 @@ fn show_file(
     p: &mut [u8],
     za: &mut [u8],
     room: &mut [u8],
-) -> Shown
+) -> Result<usize, Refusal>
     requires { Roomy (buffers words.old z.old p.old za.old) × (longest_image ≤ length room.old) }
     ensures { Shows file.now room.old result room.new }
 {
     match capture::read(file, words, z, p, za) {
-        Reading::Refused(r) => Shown::Refused(r),
+        Reading::Refused(r) => Err(r),
         Reading::Contents { bench, words: _ } => {
             let vb = bench.vb;
-            Shown::Drawn(draw(vb, &za[..vb * vb], room))
+            Ok(draw(vb, &za[..vb * vb], room))
         }
     }
 }
@@ -104,7 +99,7 @@ fn put_header(vb: usize, room: &mut [u8])
         b'P', b'2', b'\n', hundreds, tens, units, b' ', hundreds, tens, units, b'\n', b'2', b'5',
         b'5', b'\n',
     ];
-    room[..15].copy_from_slice(&text);
+    room[..HEADER].copy_from_slice(&text);
 }
 
 // The pixels of ZA behind the header.
@@ -112,10 +107,8 @@ fn put_pixels(za: &[u8], room: &mut [u8])
     requires { (15 + 4 * length za.now ≤ length room.old) × (length za.now ≤ 65536) }
     ensures { room.new ≡ sets room.old 15 (pixels 0 za.now) }
 {
-    let mut i = 0;
-    while i < za.len() {
-        put_pixel(room, i, za[i]);
-        i += 1;
+    for (i, &v) in za.iter().enumerate() {
+        put_pixel(room, i, v);
     }
 }
 
@@ -125,10 +118,10 @@ fn put_pixel(room: &mut [u8], place: usize, v: u8)
     ensures { room.new ≡ sets room.old (15 + 4 * place) (pixel place v) }
 {
     let i = HEADER + PIXEL * place;
-    room[i] = digit_from(v as usize, 100);
-    room[i + 1] = digit_from(v as usize, 10);
-    room[i + 2] = b'0' + v % 10;
-    room[i + 3] = behind(place);
+    let hundreds = digit_from(v as usize, 100);
+    let tens = digit_from(v as usize, 10);
+    let text = [hundreds, tens, b'0' + v % 10, behind(place)];
+    room[i..i + PIXEL].copy_from_slice(&text);
 }
 
 // A space, or the end of a line.

@@ -5,7 +5,7 @@
 
 ghost use Rattle.std.specs.Prelude.{◌≡◌, ◌≤◌, length};
 
-use checks::{Input, STDOUT_FILENO, part, plus};
+use checks::{InputError, STDOUT_FILENO, part};
 use disassembly::Place;
 use text::Printed;
 
@@ -16,7 +16,7 @@ const ROOM: usize = 10001 * disassembly::LONGEST_LINE;
 const MODULUS: u64 = 4294967291;
 
 // How many calls a listing took, its lines and bytes, and a checksum that changes where two bytes are exchanged.
-#[derive(Clone, Copy)]
+#[derive(Clone, Copy, Default)]
 pub struct Sum {
     pub calls: u64,
     pub lines: u64,
@@ -24,20 +24,19 @@ pub struct Sum {
     pub checksum: u64,
 }
 
-// Where a listing stands, what it has come to, and how much of the last piece was taken.
+// Where a listing stands, and what it has come to.
 #[derive(Clone, Copy)]
-pub struct Progress {
+pub struct Listing {
     pub place: Place,
     pub sum: Sum,
-    pub taken: usize,
 }
 
 fn main(rt: HostRuntime) {
     let mut input = checks::input_room();
     match checks::read_input(&rt, &mut input) {
-        Input::Bytes(n) => list_cuts(checks::first(&input, n)),
-        Input::TooLong => write(b"the input is too long\n"),
-        Input::Unreadable => write(b"the input can't be read\n"),
+        Ok(n) => list_cuts(checks::first(&input, n)),
+        Err(InputError::TooLong) => write(b"the input is too long\n"),
+        Err(InputError::Unreadable) => write(b"the input can't be read\n"),
     }
 }
 
@@ -46,22 +45,14 @@ fn list_cuts(bytes: &[u8]) {
     let mut space = lines_room();
     let room: &mut [u8] = &mut space;
     write(b"whole");
-    report(sum_of(bytes, bytes.len(), room));
-    in_pieces(bytes, 1, room);
-    in_pieces(bytes, 2, room);
-    in_pieces(bytes, 3, room);
-    in_pieces(bytes, 4, room);
-    in_pieces(bytes, 5, room);
-    in_pieces(bytes, 7, room);
-    in_pieces(bytes, 64, room);
-    in_pieces(bytes, 4093, room);
-    in_pieces(bytes, 4096, room);
+    sum_of(bytes, bytes.len(), room).report();
+    for size in [1, 2, 3, 4, 5, 7, 64, 4093, 4096] {
+        in_pieces(bytes, size, room);
+    }
     in_rooms(bytes);
-    list_first(bytes, 0, room);
-    list_first(bytes, 1, room);
-    list_first(bytes, 2, room);
-    list_first(bytes, 3, room);
-    list_first(bytes, 4, room);
+    for n in 0..5 {
+        list_first(bytes, n, room);
+    }
 }
 
 fn lines_room() -> [u8; ROOM]
@@ -72,7 +63,7 @@ fn lines_room() -> [u8; ROOM]
 
 fn in_pieces(bytes: &[u8], size: usize, room: &mut [u8]) {
     part(b"pieces of ", size as u64);
-    report(sum_of(bytes, size, room));
+    sum_of(bytes, size, room).report();
 }
 
 // Room for one line, for a byte less than two, for two, and for 62.
@@ -89,92 +80,63 @@ fn in_rooms(bytes: &[u8]) {
 
 fn in_room(bytes: &[u8], room: &mut [u8]) {
     part(b"rooms of ", room.len() as u64);
-    report(sum_of(bytes, bytes.len(), room));
-}
-
-fn report(sum: Sum) {
-    part(b": calls ", sum.calls);
-    part(b", lines ", sum.lines);
-    part(b", bytes ", sum.bytes);
-    checks::count(b", checksum ", sum.checksum);
+    sum_of(bytes, bytes.len(), room).report();
 }
 
 // Of the listing in pieces of so many bytes, with an empty one before each. What a room did not take is handed over again.
 fn sum_of(bytes: &[u8], size: usize, room: &mut [u8]) -> Sum {
-    let mut so_far = nothing();
-    let mut at = 0;
-    while at < bytes.len() {
-        so_far = with_piece(so_far, b"", room);
-        so_far = with_piece(so_far, checks::first(&bytes[at..], size), room);
-        if so_far.taken == 0 {
-            return with_end(so_far, room);
-        }
-        at += so_far.taken;
-    }
-    with_end(so_far, room)
-}
-
-fn nothing() -> Progress {
-    Progress {
+    let mut listing = Listing {
         place: disassembly::start(),
-        sum: Sum {
-            calls: 0,
-            lines: 0,
-            bytes: 0,
-            checksum: 0,
-        },
-        taken: 0,
+        sum: Sum::default(),
+    };
+    let mut rest = bytes;
+    while !rest.is_empty() {
+        listing.list(b"", room);
+        let taken = listing.list(checks::first(rest, size), room);
+        if taken == 0 {
+            break;
+        }
+        rest = &rest[taken..];
+    }
+    listing.finish(room);
+    listing.sum
+}
+
+impl Listing {
+    // Lists one piece more, and answers how much of it was taken.
+    fn list(&mut self, piece: &[u8], room: &mut [u8]) -> usize
+        ensures { result ≤ length piece.now }
+    {
+        let listed = disassembly::list(self.place, piece, room);
+        self.place = listed.place;
+        self.sum.calls = self.sum.calls.wrapping_add(1);
+        self.sum.add(checks::first(room, listed.written));
+        listed.taken
+    }
+
+    // Lists the end, where the room holds it.
+    fn finish(&mut self, room: &mut [u8]) {
+        match disassembly::finish(self.place, room) {
+            Printed::Length(n) => self.sum.add(checks::first(room, n)),
+            Printed::Refused(_) => {}
+        }
     }
 }
 
-// One piece more.
-fn with_piece(so_far: Progress, piece: &[u8], room: &mut [u8]) -> Progress
-    ensures { result.taken ≤ length piece.now }
-{
-    let place = so_far.place;
-    let sum = so_far.sum;
-    let listed = disassembly::list(place, piece, room);
-    let behind = listed.place;
-    Progress {
-        place: behind,
-        sum: with_text(with_call(sum), checks::first(room, listed.written)),
-        taken: listed.taken,
+impl Sum {
+    fn add(&mut self, text: &[u8]) {
+        for &byte in text {
+            self.lines = self.lines.wrapping_add(u64::from(byte == b'\n'));
+            self.bytes = self.bytes.wrapping_add(1);
+            self.checksum = (self.checksum % MODULUS * 257 + u64::from(byte)) % MODULUS;
+        }
     }
-}
 
-fn with_call(sum: Sum) -> Sum {
-    Sum {
-        calls: plus(sum.calls, 1),
-        lines: sum.lines,
-        bytes: sum.bytes,
-        checksum: sum.checksum,
-    }
-}
-
-// The end, where the room holds it.
-fn with_end(so_far: Progress, room: &mut [u8]) -> Sum {
-    let place = so_far.place;
-    let sum = so_far.sum;
-    match disassembly::finish(place, room) {
-        Printed::Length(n) => with_text(sum, checks::first(room, n)),
-        Printed::Refused(_) => sum,
-    }
-}
-
-fn with_text(sum: Sum, text: &[u8]) -> Sum {
-    let mut s = sum;
-    for i in 0..text.len() {
-        s = with_byte(s, text[i]);
-    }
-    s
-}
-
-fn with_byte(sum: Sum, byte: u8) -> Sum {
-    Sum {
-        calls: sum.calls,
-        lines: plus(sum.lines, checks::one_if(byte == b'\n')),
-        bytes: plus(sum.bytes, 1),
-        checksum: (sum.checksum % MODULUS * 257 + checks::wide(byte)) % MODULUS,
+    fn report(self) {
+        part(b": calls ", self.calls);
+        part(b", lines ", self.lines);
+        part(b", bytes ", self.bytes);
+        checks::count(b", checksum ", self.checksum);
     }
 }
 

@@ -4,7 +4,7 @@
 mod counts;
 mod meaning;
 
-pub use counts::{no_sums, report_sums, with_sum};
+pub use counts::no_sums;
 pub use meaning::write_refusal;
 
 // How many words miss which features, by the sum of their flags; no word of the table misses another sum than these five.

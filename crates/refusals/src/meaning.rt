@@ -3,39 +3,35 @@ ghost use Rattle.std.specs.Prelude.{◌<◌};
 
 use isa::Refusal;
 
-// Writes its number and what it means; beside 8, the features that the word needs and that are off.
+// Writes its number and what it means; beside 8, the features that the word needs and that are off. A function and no Display:
+// Refusal is of isa, and programs write to standard output and standard error by number.
 pub fn write_refusal(fd: i32, r: Refusal) {
-    io::print_decimal(fd, isa::number(r) as u64);
+    io::print_decimal(fd, u64::from(isa::number(r)));
     io::write_all(fd, b": ");
     write_meaning(fd, r);
 }
 
 // The sentences are the Rust crate's, but for 8.
 fn write_meaning(fd: i32, r: Refusal) -> bool {
-    match r {
-        Refusal::Flags => io::write_all(fd, b"flags are above 15"),
-        Refusal::VectorLength => io::write_all(
-            fd,
-            b"the vector length is not 16, 32, 64, 128 or 256 bytes",
-        ),
-        Refusal::ZLength => io::write_all(fd, b"Z does not hold 32 vectors"),
-        Refusal::PLength => io::write_all(fd, b"P does not hold 16 predicates"),
-        Refusal::ZaLength => io::write_all(fd, b"ZA is not a square of the vector length"),
-        Refusal::ListLength => io::write_all(fd, b"the list has more than 65536 words"),
-        Refusal::Unlisted => io::write_all(fd, b"the word is no listed instruction"),
-        Refusal::FeatureOff { missing } => write_needs(fd, missing),
-        Refusal::StreamingOff => io::write_all(fd, b"an outer product needs streaming mode on"),
-        Refusal::ZaOff => io::write_all(fd, b"the word needs ZA on"),
-        Refusal::OutOfRange => io::write_all(fd, b"a field is out of range"),
-        Refusal::Room => io::write_all(fd, b"the room is too short"),
-        Refusal::NotText => io::write_all(fd, b"the line is the text of no listed word"),
-        Refusal::NotCleared => io::write_all(
-            fd,
-            b"the tile has a row that no earlier ZERO of the list cleared",
-        ),
-        Refusal::Version => io::write_all(fd, b"the file has another version than 1"),
-        Refusal::Format => io::write_all(fd, b"the file is no capture"),
-    }
+    let meaning: &[u8] = match r {
+        Refusal::Flags => b"flags are above 15",
+        Refusal::VectorLength => b"the vector length is not 16, 32, 64, 128 or 256 bytes",
+        Refusal::ZLength => b"Z does not hold 32 vectors",
+        Refusal::PLength => b"P does not hold 16 predicates",
+        Refusal::ZaLength => b"ZA is not a square of the vector length",
+        Refusal::ListLength => b"the list has more than 65536 words",
+        Refusal::Unlisted => b"the word is no listed instruction",
+        Refusal::FeatureOff { missing } => return write_needs(fd, missing),
+        Refusal::StreamingOff => b"an outer product needs streaming mode on",
+        Refusal::ZaOff => b"the word needs ZA on",
+        Refusal::OutOfRange => b"a field is out of range",
+        Refusal::Room => b"the room is too short",
+        Refusal::NotText => b"the line is the text of no listed word",
+        Refusal::NotCleared => b"the tile has a row that no earlier ZERO of the list cleared",
+        Refusal::Version => b"the file has another version than 1",
+        Refusal::Format => b"the file is no capture",
+    };
+    io::write_all(fd, meaning)
 }
 
 // The features of a sum of flags, by name.

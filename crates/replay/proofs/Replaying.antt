@@ -21,8 +21,9 @@ use Rattle.capture.proofs.Captures.{length_capture}
 use Rattle.capture.proofs.Theorems.{every_write, suffices, read_then_write}
 use Rattle.replay.specs.Replays.{machine_of, end_of_run, after_run, Replays, told}
 use Rattle.replay.specs.Replays.Replays.{ran, refused}
-use Rattle.replay.specs.declared.Replayed.{Replayed}
-use Rattle.replay.specs.declared.Replayed.TheVariants.{Ran}
+use Rattle.isa.specs.declared.Refusal.{Refusal}
+use Rattle.std.specs.Prelude.{Result, Ok}
+use Rattle.replay.specs.declared.Ran.{Ran}
 
 -- a run keeps every size, so that what it leaves is written as what was read would be
 module _ (file : List ℕ) (c : Capture) (h : Holds file c) where
@@ -35,7 +36,7 @@ module _ (file : List ℕ) (c : Capture) (h : Holds file c) where
   same_length : length (bytes_of_capture (after_run c)) ≡ length file
   same_length = let e = ap length h.bytes in omega (arith, length_capture (after_run c), length_capture c, same-za)
 
-  written : (r : Replayed) (room next : List ℕ) → longest ≤ length room
+  written : (r : Result Ran Refusal) (room next : List ℕ) → longest ≤ length room
       → r ≡ told c.bench (length c.words) (end_of_run c) (write_of (after_run c) (length room)) → next ≡ room_written (after_run c) room → Replays file room r next
   written r room next l e f =
       let fits : length (bytes_of_capture (after_run c)) ≤ length room = omega (arith, same_length, ap length h.bytes, (suffices c h.lawful).for_file) in
@@ -46,7 +47,7 @@ module _ (file : List ℕ) (c : Capture) (h : Holds file c) where
       (f ∙ b)
 
 pub replay_ran : {file : List ℕ} {before after : Buffers} {a : Reading} {b : Bench} {n : ℕ} → Reads file before a after → a ≡ Contents b n
-    → (r : Replayed) (room next : List ℕ) → longest ≤ length room
+    → (r : Result Ran Refusal) (room next : List ℕ) → longest ≤ length room
     → (let c = in_buffers b n after in r ≡ told b (length c.words) (end_of_run c) (write_of (after_run c) (length room)))
     → next ≡ room_written (after_run (in_buffers b n after)) room → Replays file room r next
 replay_ran {file} {before} {after} {b = b} {n = n} q e =
@@ -67,10 +68,10 @@ module _ (b : Bench) (ws z p za : List ℕ) where
   }
 
 -- what was run has a vector length
-pub ran-length : {file room next : List ℕ} {r : Replayed} {b : Bench} {n l : ℕ} {e : Ended} → Replays file room r next → r ≡ Ran b n e l → (0 < b.vb) × (b.vb ≤ 256)
-ran-length {b = b} (ran c h f g) q =
-    let x : b ≡ c.bench = cc in
+pub ran-length : {file room next : List ℕ} {r : Result Ran Refusal} {a : Ran} → Replays file room r next → r ≡ Ok a → (0 < a.bench.vb) × (a.bench.vb ≤ 256)
+ran-length {a = a} (ran c h f g) q =
+    let x : a.bench ≡ c.bench = cc in
     let l = legal-length c.bench.vb h.lawful.passes.length_legal in
-    let y : b.vb ≡ c.bench.vb = ap (λ (v : Bench). v.vb) x in
+    let y : a.bench.vb ≡ c.bench.vb = ap (λ (v : Bench). v.vb) x in
     (omega (arith, l.least), omega (arith, l.most))
 ran-length (refused o f g h) q = let z : ◌≡◌ {A = ℕ} 0 1 = cc in absurd (omega arith)

@@ -1,5 +1,5 @@
 -- What comes of a file (document 02, C-20): a capture is run, and written again with ZA as the run left it.
-use Rattle.std.specs.Prelude.{◌≡◌, List, ℕ, length}
+use Rattle.std.specs.Prelude.{◌≡◌, List, ℕ, length, Result, Ok, Err}
 use Rattle.isa.specs.declared.Refusal.{Refusal}
 use Rattle.machine.specs.declared.Bench.{Bench}
 use Rattle.machine.specs.declared.Ended.{Ended}
@@ -9,8 +9,7 @@ use Rattle.capture.specs.Format.{Capture, capture_of, bytes_of_capture, Holds}
 use Rattle.capture.specs.Outcomes.{over, Refuses}
 use Rattle.capture.specs.declared.Written.{Written}
 use Rattle.capture.specs.declared.Written.TheVariants.{Length, Refused as NotWritten}
-use Rattle.replay.specs.declared.Replayed.{Replayed}
-use Rattle.replay.specs.declared.Replayed.TheVariants.{Ran, Refused}
+use Rattle.replay.specs.declared.Ran.{Ran}
 
 -- what the run of a capture begins on, how it ends, and the capture with ZA as it is then
 abbrev pub machine_of : Capture → Machine
@@ -22,13 +21,17 @@ end_of_run c = run_of (machine_of c) c.words
 abbrev pub after_run : Capture → Capture
 after_run c = capture_of c.bench c.words c.z c.p (run_left (machine_of c) c.words).za
 
+-- what is told of a file that was run
+abbrev pub ran_on : Bench → ℕ → Ended → ℕ → Ran
+ran_on b words ended n = record { bench = b; words = words; ended = ended; length = n }
+
 -- what is answered, and what stands in the room then: nothing new where the file is refused
-pub data Replays (file before : List ℕ) (r : Replayed) (after : List ℕ) : Type 0 where
-  ran : (c : Capture) → Holds file c → r ≡ Ran c.bench (length c.words) (end_of_run c) (length file)
+pub data Replays (file before : List ℕ) (r : Result Ran Refusal) (after : List ℕ) : Type 0 where
+  ran : (c : Capture) → Holds file c → r ≡ Ok (ran_on c.bench (length c.words) (end_of_run c) (length file))
       → after ≡ over (bytes_of_capture (after_run c)) before → Replays file before r after
-  refused : (q : Refusal) → Refuses file q → r ≡ Refused q → after ≡ before → Replays file before r after
+  refused : (q : Refusal) → Refuses file q → r ≡ Err q → after ≡ before → Replays file before r after
 
 -- a run and what write answers of it
-abbrev pub told : Bench → ℕ → Ended → Written → Replayed
-told b words ended (Length n) = Ran b words ended n
-told b words ended (NotWritten r) = Refused r
+abbrev pub told : Bench → ℕ → Ended → Written → Result Ran Refusal
+told b words ended (Length n) = Ok (ran_on b words ended n)
+told b words ended (NotWritten r) = Err r

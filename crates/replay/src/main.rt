@@ -12,30 +12,29 @@ ghost use Rattle.replay.specs.Replays.{Replays, told};
 ghost use Rattle.replay.specs.Changes.{changed_in};
 
 use capture::{Reading, Written};
-use checks::{Input, STDERR_FILENO, STDOUT_FILENO};
+use checks::{InputError, STDERR_FILENO, STDOUT_FILENO};
 use isa::Refusal;
 use machine::{Bench, Ended, Outcome};
 use text::Printed;
 
-// What comes of a file: it was run, so many of its words executed, and stands in a room with so many bytes; or it is refused.
+// A file that was run: on which bench, so many words, how the run ended, and as how many bytes it stands in a room.
 #[derive(Clone, Copy)]
-pub enum Replayed {
-    Ran {
-        bench: Bench,
-        words: usize,
-        ended: Ended,
-        length: usize,
-    },
-    Refused(Refusal),
+pub struct Ran {
+    pub bench: Bench,
+    pub words: usize,
+    pub ended: Ended,
+    pub length: usize,
 }
 
 fn main(rt: HostRuntime) {
     let mut input = checks::input_room();
     match checks::read_input(&rt, &mut input) {
-        Input::Bytes(n) => replay(checks::first(&input, n)),
+        Ok(n) => replay(checks::first(&input, n)),
         // No capture is as long as the room, and its first byte, which is the version, stands there.
-        Input::TooLong => replay(&input),
-        Input::Unreadable => tell(b"the input can't be read to its end, and is not replayed\n"),
+        Err(InputError::TooLong) => replay(&input),
+        Err(InputError::Unreadable) => {
+            tell(b"the input can't be read to its end, and is not replayed\n");
+        }
     }
 }
 
@@ -46,21 +45,12 @@ fn replay(file: &[u8]) {
     let mut za = capture::tiles_room();
     let mut room = capture::file_room();
     match replay_file(file, &mut words, &mut z, &mut p, &mut za, &mut room) {
-        Replayed::Refused(r) => {
-            tell(b"refused ");
-            refusals::write_refusal(STDERR_FILENO, r);
-            tell(b"\n");
-        }
-        Replayed::Ran {
-            bench,
-            words: n,
-            ended,
-            length,
-        } => {
-            let made = checks::first(&room, length);
-            write_bench(bench);
-            write_end(&words, n, ended);
-            write_changes(bench.vb, file, made);
+        Err(r) => write_refused(r),
+        Ok(ran) => {
+            let made = checks::first(&room, ran.length);
+            write_bench(ran.bench);
+            write_end(&words[..ran.words.min(words.len())], ran.ended);
+            write_changes(ran.bench.vb, file, made);
             if !io::write_all(STDOUT_FILENO, made) {
                 tell(b"standard output did not take the whole capture\n");
             }
@@ -76,12 +66,12 @@ fn replay_file(
     p: &mut [u8],
     za: &mut [u8],
     room: &mut [u8],
-) -> Replayed
+) -> Result<Ran, Refusal>
     requires { Roomy (buffers words.old z.old p.old za.old) × (longest ≤ length room.old) }
     ensures { Replays file.now room.old result room.new }
 {
     match capture::read(file, words, z, p, za) {
-        Reading::Refused(r) => Replayed::Refused(r),
+        Reading::Refused(r) => Err(r),
         Reading::Contents { bench, words: n } => {
             let vb = bench.vb;
             run_and_write(
@@ -104,19 +94,19 @@ fn run_and_write(
     p: &[u8],
     za: &mut [u8],
     room: &mut [u8],
-) -> Replayed
+) -> Result<Ran, Refusal>
     ensures answer { result ≡ told bench (length words.now) (run_of (on bench z.now p.now za.old) words.now) (write_of (capture_of bench words.now z.now p.now (run_left (on bench z.now p.now za.old) words.now).za) (length room.old)) }
     ensures room_after { room.new ≡ room_written (capture_of bench words.now z.now p.now (run_left (on bench z.now p.now za.old) words.now).za) room.old }
 {
     let ended = machine::run(bench, z, p, za, words);
     match capture::write(bench, words, z, p, za, room) {
-        Written::Refused(r) => Replayed::Refused(r),
-        Written::Length(length) => Replayed::Ran {
+        Written::Refused(r) => Err(r),
+        Written::Length(length) => Ok(Ran {
             bench,
             words: words.len(),
             ended,
             length,
-        },
+        }),
     }
 }
 
@@ -151,8 +141,8 @@ fn write_mode(name: &[u8], on: bool) {
 }
 
 // How many words there are and how many were executed; where the run stopped, the word, its text and the refusal.
-fn write_end(words: &[u32], n: usize, ended: Ended) {
-    part(b"words ", n as u64);
+fn write_end(words: &[u32], ended: Ended) {
+    part(b"words ", words.len() as u64);
     part(b", executed ", ended.count as u64);
     tell(b"\n");
     let outcome = ended.outcome;
@@ -160,13 +150,15 @@ fn write_end(words: &[u32], n: usize, ended: Ended) {
         return;
     };
     let place = ended.count;
-    if place < n {
-        if place < words.len() {
-            part(b"stopped at word ", place as u64 + 1);
-            write_word(words[place]);
-            tell(b"\n");
-        }
+    if let Some(&word) = words.get(place) {
+        part(b"stopped at word ", place as u64 + 1);
+        write_word(word);
+        tell(b"\n");
     }
+    write_refused(r);
+}
+
+fn write_refused(r: Refusal) {
     tell(b"refused ");
     refusals::write_refusal(STDERR_FILENO, r);
     tell(b"\n");
@@ -190,14 +182,12 @@ fn write_changes(vb: usize, before: &[u8], after: &[u8])
     let old = last(before, vb * vb);
     let new = last(after, vb * vb);
     part(b"bytes of ZA changed: ", checks::differing(old, new));
-    let mut tile = 0;
-    while tile < 8 {
+    for tile in 0..8 {
         let n = changed_in(tile, vb, old, new);
         if 0 < n {
             part(b", za", tile as u64);
             part(b".d ", n);
         }
-        tile += 1;
     }
     tell(b"\n");
 }
@@ -208,11 +198,9 @@ fn changed_in(tile: usize, vb: usize, old: &[u8], new: &[u8]) -> u64
     ensures { result ≡ changed_in tile vb (length old.now) old.now new.now }
 {
     let mut n: u64 = 0;
-    let mut i = 0;
-    while i < old.len() {
-        let same = checks::has(new, i, old[i]);
-        n = checks::plus(n, checks::one_if((i / vb % 8 == tile) & !same));
-        i += 1;
+    for (i, &byte) in old.iter().enumerate() {
+        let same = checks::has(new, i, byte);
+        n = n.wrapping_add(u64::from((i / vb % 8 == tile) & !same));
     }
     n
 }
@@ -221,10 +209,7 @@ fn changed_in(tile: usize, vb: usize, old: &[u8], new: &[u8]) -> u64
 fn last(bytes: &[u8], n: usize) -> &[u8]
     ensures { result.now ≡ drop (length bytes.now - n) bytes.now }
 {
-    if n < bytes.len() {
-        return &bytes[bytes.len() - n..];
-    }
-    bytes
+    &bytes[bytes.len().saturating_sub(n)..]
 }
 
 fn part(name: &[u8], n: u64) {

@@ -32,14 +32,9 @@ fn main() {
 
 // Each of the eight 64-bit tiles left out of the ZERO.
 fn one_tile_too_few(z: &[u8], p: &[u8]) {
-    with_zero(z, p, 0xC008_00FE);
-    with_zero(z, p, 0xC008_00FD);
-    with_zero(z, p, 0xC008_00FB);
-    with_zero(z, p, 0xC008_00F7);
-    with_zero(z, p, 0xC008_00EF);
-    with_zero(z, p, 0xC008_00DF);
-    with_zero(z, p, 0xC008_00BF);
-    with_zero(z, p, 0xC008_007F);
+    for tile in 0..8u32 {
+        with_zero(z, p, ZERO_ALL ^ (1 << tile));
+    }
 }
 
 // The kernel behind a ZERO.
@@ -82,12 +77,12 @@ fn write_stop(words: &[u32], place: usize, outcome: Outcome) {
     let Outcome::Refused(r) = outcome else {
         return;
     };
-    if words.len() <= place {
+    let Some(&word) = words.get(place) else {
         return;
-    }
+    };
     part(b"  stopped at word ", place as u64 + 1);
     io::write_all(STDOUT_FILENO, b", ");
-    write_text(words[place]);
+    write_text(word);
     io::write_all(STDOUT_FILENO, b"\n  refused ");
     refusals::write_refusal(STDOUT_FILENO, r);
     io::write_all(STDOUT_FILENO, b"\n");

@@ -4,7 +4,7 @@
 
 ghost use Rattle.std.specs.Prelude.{◌≡◌, ◌≤◌, length};
 
-use checks::{Fill, STDOUT_FILENO, differing, generate, next, one_if, part, plus};
+use checks::{Fill, STDOUT_FILENO, differing, generate, next, part};
 use isa::Decoded;
 use machine::Bench;
 
@@ -16,7 +16,7 @@ const LIST_WORDS: usize = 40;
 
 // The lists and their words, how many words decode accepts, how many lists changed ZA on the way forward, and how many
 // bytes of ZA differ after the way back.
-#[derive(Clone, Copy)]
+#[derive(Clone, Copy, Default)]
 pub struct Tally {
     pub lists: u64,
     pub words: u64,
@@ -26,11 +26,9 @@ pub struct Tally {
 }
 
 fn main() {
-    report(16);
-    report(32);
-    report(64);
-    report(128);
-    report(256);
+    for vb in [16, 32, 64, 128, 256] {
+        report(vb);
+    }
 }
 
 fn report(vb: usize)
@@ -71,29 +69,20 @@ fn tally_at(vb: usize) -> Tally
 }
 
 fn tally_lists(bench: Bench, z: &mut [u8], p: &mut [u8], za: &mut [u8], start: &mut [u8]) -> Tally {
-    let mut t = Tally {
-        lists: 0,
-        words: 0,
-        accepted: 0,
-        changed: 0,
-        differing: 0,
-    };
-    let mut seed = 0;
-    while seed < LISTS {
-        let list = there_and_back(bench, seed, z, p, za, start);
-        t = added(t, list);
-        seed += 1;
+    let mut t = Tally::default();
+    for seed in 0..LISTS {
+        t.add(there_and_back(bench, seed, z, p, za, start));
     }
     t
 }
 
-fn added(t: Tally, list: Tally) -> Tally {
-    Tally {
-        lists: plus(t.lists, list.lists),
-        words: plus(t.words, list.words),
-        accepted: plus(t.accepted, list.accepted),
-        changed: plus(t.changed, list.changed),
-        differing: plus(t.differing, list.differing),
+impl Tally {
+    fn add(&mut self, list: Tally) {
+        self.lists = self.lists.wrapping_add(list.lists);
+        self.words = self.words.wrapping_add(list.words);
+        self.accepted = self.accepted.wrapping_add(list.accepted);
+        self.changed = self.changed.wrapping_add(list.changed);
+        self.differing = self.differing.wrapping_add(list.differing);
     }
 }
 
@@ -117,9 +106,7 @@ fn there_and_back(
     played(bench, z, p, za, start, &words)
 }
 
-fn played(bench: Bench, z: &[u8], p: &[u8], za: &mut [u8], start: &[u8], words: &[u32]) -> Tally
-    requires { length words.now ≡ 40 }
-{
+fn played(bench: Bench, z: &[u8], p: &[u8], za: &mut [u8], start: &[u8], words: &[u32]) -> Tally {
     let mut back = [0u32; LIST_WORDS];
     undoing(bench, z, p, za, words, &mut back);
     machine::play(bench, z, p, za, words);
@@ -129,31 +116,20 @@ fn played(bench: Bench, z: &[u8], p: &[u8], za: &mut [u8], start: &[u8], words: 
         lists: 1,
         words: words.len() as u64,
         accepted: accepted(words),
-        changed: one_if(changed),
+        changed: u64::from(changed),
         differing: differing(za, start),
     }
 }
 
 // The way back: the list reversed, with add and subtract exchanged.
-fn undoing(bench: Bench, z: &[u8], p: &[u8], za: &[u8], words: &[u32], back: &mut [u32])
-    requires { length words.now ≡ length back.old }
-{
-    let mut i = 0;
-    while i < words.len() {
-        let word = words[words.len() - 1 - i];
-        back[i] = machine::exchange(bench, z, p, za, word);
-        i += 1;
+fn undoing(bench: Bench, z: &[u8], p: &[u8], za: &[u8], words: &[u32], back: &mut [u32]) {
+    for (slot, &word) in back.iter_mut().zip(words.iter().rev()) {
+        *slot = machine::exchange(bench, z, p, za, word);
     }
 }
 
 fn accepted(words: &[u32]) -> u64 {
-    let mut n: u64 = 0;
-    let mut i = 0;
-    while i < words.len() {
-        n = plus(n, one_if(is_accepted(words[i])));
-        i += 1;
-    }
-    n
+    words.iter().filter(|word| is_accepted(**word)).count() as u64
 }
 
 // With both modes on, a word is accepted if decode accepts it.
@@ -166,13 +142,11 @@ fn is_accepted(word: u32) -> bool {
 
 fn draw(x: u32, words: &mut [u32]) {
     let mut x = x;
-    let mut i = 0;
-    while i < words.len() {
+    for word in words.iter_mut() {
         let y = next(x);
         let kind = next(y);
         x = next(kind);
-        words[i] = word_of(kind / 65536 % 8, joined(y, x));
-        i += 1;
+        *word = word_of(kind / 65536 % 8, joined(y, x));
     }
 }
 

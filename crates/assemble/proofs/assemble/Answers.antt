@@ -1,8 +1,7 @@
 -- `assemble::assemble` meets its contract: a turn counts a line more, and behind the last there is none. Assumes nothing.
 use Rattle.std.proofs.Common.{◌≡◌, ◌∙◌, sym, List, ℕ, ◌+◌, ◌-◌, ◌≤◌, ◌<◌, arith, length, take, drop}
 use Rattle.checks.specs.Text.{field_length}
-use Rattle.assemble.specs.declared.Assembled.{Assembled}
-use Rattle.assemble.specs.Kernel.{lines, assembled, words_after, refused_after, count_over}
+use Rattle.assemble.specs.Kernel.{Assembled, lines, assembled, words_after, refused_after, count_over}
 use Rattle.assemble.proofs.Kernel.{count_line, count_end}
 use Rattle.assemble.proofs.assemble.Invariants.{Whole}
 use Rattle.assemble.proofs.assemble.Goals as goal

@@ -1,7 +1,6 @@
 -- `assemble::assemble` meets its contract: what was counted, and the lines from the next place on, make the whole. Assumes nothing.
 use Rattle.std.proofs.Common.{◌≡◌, List, ℕ, ◌-◌, ◌≤◌, length, drop}
-use Rattle.assemble.specs.declared.Assembled.{Assembled}
-use Rattle.assemble.specs.Kernel.{lines, words_after, refused_after, count_over}
+use Rattle.assemble.specs.Kernel.{Assembled, lines, words_after, refused_after, count_over}
 use Rattle.assemble.proofs.assemble.Given as goal
 
 -- n counted, and the lines of a text from a place on, make what all its lines do

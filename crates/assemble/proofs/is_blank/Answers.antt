@@ -1,26 +1,12 @@
--- `assemble::is_blank` meets its contract: after i turns, the line is blank if the rest is. Assumes nothing.
-use mathlib.Core.Path.{◌∙◌, sym, refl}
-use native.Mathlib.Omega.{arith}
-use Rattle.assemble.proofs.Kernel.{blank_more, not-blank, blank-over}
+-- `assemble::is_blank` meets its contract: a line is blank if all its bytes are spaces. Assumes nothing.
+use Rattle.std.proofs.Common.{◌∙◌, rules, tests}
+use Rattle.std.proofs.lemmas.Iterator.{YieldsList-from_slice}
+use Rattle.std.proofs.lemmas.Iterator.Search.{all_from_yields_List}
+use Rattle.assemble.specs.Kernel.{is_space}
+use Rattle.assemble.proofs.Kernel.{blank-all}
 use Rattle.assemble.proofs.is_blank.Goals as goal
-
-pub loop-i-init : goal.loop-i-init
-loop-i-init c = refl
-
-pub returns-then-not-is_space : goal.returns-then-not-is_space
-returns-then-not-is_space c =
-    let l = c.loop-i in
-    let a = c.args in
-    sym (l.invariant ∙ not-blank a.line.now l.i (omega arith) (sym c.is_space.ensures ∙ c.if-not-is_space.true))
-
-pub loop-i-preserved : goal.loop-i-preserved
-loop-i-preserved c =
-    let l = c.loop-i in
-    let a = c.args in
-    l.invariant ∙ blank_more a.line.now l.i (omega arith) (sym c.is_space.ensures ∙ c.if-not-is_space.false)
 
 pub returns : goal.returns
 returns c =
-    let l = c.loop-i in
-    let a = c.args in
-    sym (l.invariant ∙ blank-over a.line.now l.i (omega arith))
+    all_from_yields_List is_space _ _ _ c.all.ensures.ran (YieldsList-from_slice c.args.line.now cc) (λ x b q k. search (rules, tests))
+    ∙ blank-all c.args.line.now

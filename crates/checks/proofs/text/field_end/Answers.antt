@@ -1,28 +1,18 @@
 -- `checks::text::field_end` meets its contract: what is left of the field ends where the whole does. Assumes nothing.
-use Rattle.std.proofs.Common.{refl, arith}
+use Rattle.std.proofs.Common.{◌≡◌, ◌≤◌, length, drop, arith}
+use Rattle.checks.specs.Text.{field_length}
 use Rattle.checks.proofs.Texts.{field-ends, field_more, field-over}
 use Rattle.checks.proofs.text.field_end.Goals as goal
 
-pub loop-end-init : goal.loop-end-init
-loop-end-init c = (omega arith, omega arith, refl)
-
-pub returns-then-text-end : goal.returns-then-text-end
-returns-then-text-end c =
-    let l = c.loop-end in
-    let a = c.args in
-    let e = field-ends a.text.now l.end (omega arith) a.last c.if-text-end.true in
-    record { answer = omega (arith, l.invariant.2); bounds = omega arith }
+pub returns-then-text-end-clause-answer : goal.returns-then-text-end-clause-answer
+returns-then-text-end-clause-answer c = omega (arith, field-ends c.args.text.now c.loop-end.end c.loop-end-test.true c.args.last c.if-text-end.true)
 
 pub loop-end-preserved : goal.loop-end-preserved
-loop-end-preserved c =
-    let l = c.loop-end in
-    let a = c.args in
-    let e = field_more a.text.now l.end (omega arith) a.last c.if-text-end.false in
-    (omega arith, omega arith, omega (arith, l.invariant.2))
+loop-end-preserved c = omega (arith, field_more c.args.text.now c.loop-end.end c.loop-end-test.true c.args.last c.if-text-end.false)
 
-pub returns : goal.returns
-returns c =
-    let l = c.loop-end in
+pub returns-clause-answer : goal.returns-clause-answer
+returns-clause-answer c =
     let a = c.args in
-    let e = field-over a.last a.text.now l.end (omega arith) in
-    record { answer = omega (arith, l.invariant.2); bounds = omega arith }
+    let e = field-over a.last a.text.now c.loop-end.end (omega arith) in
+    let past : length a.text.now ≤ a.at → field_length a.last (drop a.at a.text.now) ≡ 0 = λ h. field-over a.last a.text.now a.at h in
+    grind (arith, c.max.ensures, past, e)
