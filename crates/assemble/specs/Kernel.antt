@@ -4,8 +4,6 @@ use Rattle.isa.specs.declared.Refusal.{Refusal}
 use Rattle.isa.specs.Table.{all_flags}
 use Rattle.text.specs.Spelling.{Text}
 use Rattle.reader.specs.Answers.{read_of}
-use Rattle.reader.specs.declared.Reading.{Reading}
-use Rattle.reader.specs.declared.Reading.TheVariants.{Word as Read, Refused as NotRead}
 use Rattle.checks.specs.Tally.{sum}
 
 -- a byte in front of the first line
@@ -34,9 +32,9 @@ is_blank (b ∷ t) = is_space b && is_blank t
 abbrev pub is_comment : Text → Bool
 is_comment t = eqb (get_or t 0 0) 47 && eqb (get_or t 1 0) 47
 
-abbrev pub as_read : Reading → Assembled
-as_read (Read w) = Ok (Some w)
-as_read (NotRead r) = Err r
+abbrev pub as_read : Result ℕ Refusal → Assembled
+as_read (Ok w) = Ok (Some w)
+as_read (Err r) = Err r
 
 -- every feature is on
 abbrev pub assembled : Text → Assembled

@@ -10,7 +10,6 @@ ghost use Rattle.assemble.specs.Kernel.{lines, is_space, is_blank, is_comment, a
 
 use checks::{InputError, STDERR_FILENO, STDOUT_FILENO};
 use isa::Refusal;
-use reader::Reading;
 
 // How many lines came to words, how many of these were written, and how many lines were refused.
 #[derive(Clone, Copy)]
@@ -88,10 +87,8 @@ fn assemble_line(line: &[u8]) -> Result<Option<u32>, Refusal>
     if is_comment(line) {
         return Ok(None);
     }
-    match reader::read(isa::ALL_FLAGS, line) {
-        Reading::Word(w) => Ok(Some(w)),
-        Reading::Refused(r) => Err(r),
-    }
+    let word = reader::read(isa::ALL_FLAGS, line)?;
+    Ok(Some(word))
 }
 
 fn is_blank(line: &[u8]) -> bool

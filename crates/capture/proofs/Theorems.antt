@@ -295,7 +295,8 @@ pub record There (b : Bench) (n : ℕ) (s : Buffers) : Type 0 where
   pub za : length (take (za_size b.vb) s.za) ≡ za_size b.vb
   pub vb_most : b.vb ≤ 256
 
-pub contents_there : {file : List ℕ} {before after : Buffers} {a : Result Contents Refusal} {b : Bench} {n : ℕ} → Reads file before a after → a ≡ Ok (record { bench = b; words = n }) → There b n after
+pub contents_there : {file : List ℕ} {before after : Buffers} {a : Result Contents Refusal} {c : Contents} → Reads file before a after → a ≡ Ok c
+    → There c.bench c.words after
 contents_there {file} {before} {after} q e =
     let (h, w) = in_buffers_lem (subst (λ (r : Result Contents Refusal). Reads file before r after) e q) in
     let s = h.lawful.passes in

@@ -11,7 +11,6 @@ ghost use Rattle.lister.specs.Reads.{most_read};
 use checks::{STDERR_FILENO, STDOUT_FILENO};
 use disassembly::{Advance, Place};
 use std::io::Read;
-use text::Printed;
 
 // Room for the lines of what is read at once, 4,096 bytes: 1,024 words.
 const ROOM: usize = 1024 * disassembly::LONGEST_LINE;
@@ -73,8 +72,8 @@ fn put_end(place: Place, room: &mut [u8]) -> usize
     ensures room_after { room.new ≡ end_for place ++ drop (length (end_for place)) room.old }
 {
     match disassembly::finish(place, room) {
-        Printed::Length(n) => n,
-        Printed::Refused(_) => 0,
+        Ok(n) => n,
+        Err(_) => 0,
     }
 }
 

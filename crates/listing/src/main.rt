@@ -5,9 +5,7 @@
 #![tactic(auto)]
 
 use checks::{STDOUT_FILENO, part};
-use reader::Reading;
 use std::ops::Range;
-use text::Printed;
 
 // Where the listed words stand: the quarter-tile words on 32-bit tiles; the other outer products; ZERO.
 const QUARTER32: Range<u32> = 0x8000_0000..0x8140_0000;
@@ -68,8 +66,8 @@ impl Listing {
     // Counts a word's line, if the word is listed.
     fn list(&mut self, word: u32, room: &mut [u8]) {
         match text::print(isa::ALL_FLAGS, word, room) {
-            Printed::Length(n) => self.count(word, checks::first(room, n)),
-            Printed::Refused(_) => {}
+            Ok(n) => self.count(word, checks::first(room, n)),
+            Err(_) => {}
         }
     }
 
@@ -83,8 +81,8 @@ impl Listing {
 
 fn reads_as(line: &[u8], word: u32) -> bool {
     match reader::read(isa::ALL_FLAGS, line) {
-        Reading::Word(w) => w == word,
-        Reading::Refused(_) => false,
+        Ok(w) => w == word,
+        Err(_) => false,
     }
 }
 

@@ -10,10 +10,10 @@ use native.Mathlib.Bridge.{le_prop}
 use native.Mathlib.Decide.{ℕ_discrete, dec_lt}
 use native.Mathlib.Omega.{arith}
 use borrow.Author.Tests.{not-false}
+use Rattle.isa.specs.declared.Instruction.{Instruction}
+use Rattle.isa.specs.declared.Refusal.{Refusal}
 use Rattle.isa.specs.Table.{all_flags}
 use Rattle.isa.specs.Answers.{describe, decode_of}
-use Rattle.isa.specs.declared.Decoded.{Decoded}
-use Rattle.isa.specs.declared.Decoded.TheVariants.{Accepted, Refused}
 use Rattle.isa.proofs.Answers.{decode_passed}
 use Rattle.storage.proofs.Bytes.{word_lt}
 use Rattle.machine.specs.Machine.{Machine}
@@ -25,7 +25,7 @@ use Rattle.pairs.specs.Order.{order_matters}
 use Rattle.pairs.specs.Claims.{Bytes, NoneClash}
 use Rattle.pairs.proofs.Below.{below_some}
 use Rattle.pairs.proofs.Theorems.{decides, never_itself, any_order}
-use Rattle.std.specs.Prelude.{Ok}
+use Rattle.std.specs.Prelude.{Ok, Err, Result}
 use Rattle.order.specs.declared.Verdict.TheVariants.{AnyOrder, AnyOrderBetween}
 use Rattle.order.specs.Pairs.{word_at, paired_with, any_pair, outer_decoded, is_fixed, any_fixed, count_in, ends_in_mid_word, is_too_long, verdict, words_from, words, SameEnd, NoneFixed, Rearranged, behind, before, Means}
 use Rattle.order.proofs.Leaving.{after_bytes, after_flags, played_bytes, played_flags}
@@ -44,9 +44,9 @@ place f (suc k) v m = go (place (λ j. f (suc j)) k v) (Memᴰ.cases_cons m)
 not_fixed : (w : ℕ) → is_fixed w ≡ false → is_outer (describe w) ≡ true
 not_fixed w h = go (decode_of all_flags w) refl (not-false _ h)
   where
-    go : (d : Decoded) → decode_of all_flags w ≡ d → outer_decoded d ≡ true → is_outer (describe w) ≡ true
-    go (Accepted i) e t = ap is_outer (decode_passed all_flags w i e).1 ∙ t
-    go (Refused r) e t = absurd (false≢true t)
+    go : (d : Result Instruction Refusal) → decode_of all_flags w ≡ d → outer_decoded d ≡ true → is_outer (describe w) ≡ true
+    go (Ok i) e t = ap is_outer (decode_passed all_flags w i e).1 ∙ t
+    go (Err r) e t = absurd (false≢true t)
 
 -- ---- a list without a pair
 module _ (bytes : List ℕ) (none : any_pair bytes (count_in bytes) ≡ false) where

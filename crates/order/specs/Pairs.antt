@@ -2,10 +2,10 @@
 use Rattle.std.specs.Prelude.{◌≡◌, Bool, true, false, not, cond, ℕ, zero, suc, ◌*◌, ◌/◌, ◌%◌, eqb, ltb, length, Result, Ok, Err}
 use mathlib.Core.List.{List, [], ◌∷◌, ◌++◌, Mem, Permᴰ}
 use Rattle.std.proofs.Math.Option.{some}
+use Rattle.isa.specs.declared.Instruction.{Instruction}
+use Rattle.isa.specs.declared.Refusal.{Refusal}
 use Rattle.isa.specs.Table.{all_flags}
 use Rattle.isa.specs.Answers.{decode_of}
-use Rattle.isa.specs.declared.Decoded.{Decoded}
-use Rattle.isa.specs.declared.Decoded.TheVariants.{Accepted, Refused}
 use Rattle.storage.specs.Bytes.{at, word}
 use Rattle.machine.specs.Machine.{Machine}
 use Rattle.machine.specs.Instructions.{is_outer}
@@ -29,9 +29,9 @@ abbrev pub any_pair : List ℕ → ℕ → Bool
 any_pair bytes n = some_below (λ i. some_below (paired_with bytes i) i) n
 
 -- ---- words that stay where they are: ZEROs, and refused words, at which a run stops
-abbrev pub outer_decoded : Decoded → Bool
-outer_decoded (Accepted i) = is_outer (some i)
-outer_decoded (Refused r) = false
+abbrev pub outer_decoded : Result Instruction Refusal → Bool
+outer_decoded (Ok i) = is_outer (some i)
+outer_decoded (Err r) = false
 
 abbrev pub is_fixed : ℕ → Bool
 is_fixed w = not (outer_decoded (decode_of all_flags w))

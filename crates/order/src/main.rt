@@ -11,8 +11,7 @@ ghost use Rattle.pairs.specs.Order.{some_below, order_matters};
 ghost use Rattle.order.specs.Pairs.{word_at, paired_with, any_pair, is_fixed, any_fixed, count_in, verdict_of};
 
 use checks::{InputError, STDERR_FILENO, STDOUT_FILENO, part};
-use isa::{Decoded, Instruction, Refusal};
-use text::Printed;
+use isa::{Instruction, Refusal};
 
 // What is said of a list.
 #[derive(Clone, Copy)]
@@ -163,11 +162,11 @@ fn name_if_fixed(i: usize, word: u32) -> bool
     ensures { result ≡ is_fixed word }
 {
     match isa::decode(isa::ALL_FLAGS, word) {
-        Decoded::Refused(r) => {
+        Err(r) => {
             name_refused(i, word, r);
             true
         }
-        Decoded::Accepted(instruction) => {
+        Ok(instruction) => {
             let outer = is_outer(instruction);
             if !outer {
                 write(b"fixed: ");
@@ -183,20 +182,7 @@ fn is_outer(i: Instruction) -> bool
     ensures { result ≡ is_outer (some i) }
 {
     match i {
-        Instruction::Predicated {
-            op: _,
-            tile: _,
-            pn: _,
-            pm: _,
-            zn: _,
-            zm: _,
-        } => true,
-        Instruction::Quarter {
-            op: _,
-            tile: _,
-            first: _,
-            second: _,
-        } => true,
+        Instruction::Predicated(_) | Instruction::Quarter(_) => true,
         Instruction::Zero(_) => false,
     }
 }
@@ -221,7 +207,7 @@ fn word_at(bytes: &[u8], i: usize) -> u32
 fn write_word(i: usize, word: u32) {
     write_place(i);
     let mut room = [0u8; 47];
-    if let Printed::Length(n) = text::print(isa::ALL_FLAGS, word, &mut room) {
+    if let Ok(n) = text::print(isa::ALL_FLAGS, word, &mut room) {
         write(checks::first(&room, n));
     }
 }

@@ -7,6 +7,7 @@ use native.Mathlib.Omega.{arith}
 use lib.ListN.{length, take, drop, length-append}
 use lib.Seq.{sets, take-suc, length-take-le}
 use Rattle.std.specs.Prelude.{Result, Ok}
+use Rattle.capture.specs.declared.Contents.{Contents}
 use Rattle.isa.specs.declared.Refusal.{Refusal}
 use Rattle.storage.specs.Bytes.{at}
 use Rattle.storage.proofs.Bytes.{sets_append}
@@ -15,8 +16,6 @@ use Rattle.machine.specs.declared.Bench.{Bench}
 use Rattle.capture.specs.Format.{Capture}
 use Rattle.capture.specs.Outcomes.{over, Buffers, Reads}
 use Rattle.capture.specs.Claims.{in_buffers}
-use Rattle.capture.specs.declared.Reading.{Reading}
-use Rattle.capture.specs.declared.Reading.TheVariants.{Contents}
 use Rattle.capture.proofs.Writing.{put_over}
 use Rattle.capture.proofs.Theorems.{read_then_write, There, contents_there}
 use Rattle.picture.specs.Images.{pixel, pixels, header, image, longest_image, Shows}
@@ -56,17 +55,23 @@ module _ (c : Capture) (room : List ℕ) where
       ∙ sym (sets_append (header c.bench.vb) (pixels 0 c.za) room 0)
       ∙ put_over (image c) room (omega (arith, length-image))
 
-module _ {file : List ℕ} {before after : Buffers} {a : Reading} (q : Reads file before a after) where
-  module _ {b : Bench} {n : ℕ} (e : a ≡ Contents b n) where
-    reads : Reads file before (Contents b n) after
-    reads = subst (λ (r : Reading). Reads file before r after) e q
+module _ {file : List ℕ} {before after : Buffers} {a : Result Contents Refusal} (q : Reads file before a after) where
+  module _ {k : Contents} (e : a ≡ Ok k) where
+    reads : Reads file before (Ok k) after
+    reads = subst (λ (r : Result Contents Refusal). Reads file before r after) e q
+
+    abbrev b : Bench
+    b = k.bench
+
+    abbrev n : ℕ
+    n = k.words
 
     there : There b n after
     there = contents_there q e
 
     pub show_drawn : (room next : List ℕ) (m : ℕ) → longest_image ≤ length room → m ≡ 15 + 4 * length (take (za_size b.vb) after.za)
         → next ≡ sets (header b.vb ++ drop 15 room) 15 (pixels 0 (take (za_size b.vb) after.za)) → Shows file room (Ok m) next
-    show_drawn room next m l k h =
+    show_drawn room next m l s h =
         let c = in_buffers b n after in
-        let s : 15 + 4 * length c.za ≤ length room = omega (arith, there.za, mul-le-mul there.vb_most there.vb_most) in
-        drawn c (read_then_write file before after b n reads).holds (ap {B = Result ℕ Refusal} Ok (k ∙ sym (length-image c room))) (h ∙ drawn_over c room s)
+        let fits : 15 + 4 * length c.za ≤ length room = omega (arith, there.za, mul-le-mul there.vb_most there.vb_most) in
+        drawn c (read_then_write file before after b n reads).holds (ap {B = Result ℕ Refusal} Ok (s ∙ sym (length-image c room))) (h ∙ drawn_over c room fits)

@@ -7,7 +7,6 @@ ghost use Rattle.std.proofs.lemmas.List.Edits.{sets};
 ghost use Rattle.capture.specs.Outcomes.{buffers, Roomy};
 ghost use Rattle.picture.specs.Images.{digit, separator, pixel, pixels, header, longest_image, Shows};
 
-use capture::Reading;
 use checks::{InputError, STDERR_FILENO, STDOUT_FILENO};
 use isa::Refusal;
 
@@ -68,13 +67,9 @@ fn show_file(
     requires { Roomy (buffers words.old z.old p.old za.old) × (longest_image ≤ length room.old) }
     ensures { Shows file.now room.old result room.new }
 {
-    match capture::read(file, words, z, p, za) {
-        Reading::Refused(r) => Err(r),
-        Reading::Contents { bench, words: _ } => {
-            let vb = bench.vb;
-            Ok(draw(vb, &za[..vb * vb], room))
-        }
-    }
+    let contents = capture::read(file, words, z, p, za)?;
+    let vb = contents.bench.vb;
+    Ok(draw(vb, &za[..vb * vb], room))
 }
 
 // The header of the image, then its pixels.

@@ -7,7 +7,6 @@ ghost use Rattle.std.specs.Prelude.{◌≡◌, ◌≤◌, length};
 
 use checks::{InputError, STDOUT_FILENO, part};
 use disassembly::Place;
-use text::Printed;
 
 // Room for the lines of 40,003 bytes in one piece.
 const ROOM: usize = 10001 * disassembly::LONGEST_LINE;
@@ -117,8 +116,8 @@ impl Listing {
     // Lists the end, where the room holds it.
     fn finish(&mut self, room: &mut [u8]) {
         match disassembly::finish(self.place, room) {
-            Printed::Length(n) => self.sum.add(checks::first(room, n)),
-            Printed::Refused(_) => {}
+            Ok(n) => self.sum.add(checks::first(room, n)),
+            Err(_) => {}
         }
     }
 }
@@ -146,7 +145,7 @@ fn list_first(bytes: &[u8], n: usize, room: &mut [u8]) {
     write(b":\n");
     let listed = disassembly::list(disassembly::start(), checks::first(bytes, n), room);
     write(checks::first(room, listed.written));
-    if let Printed::Length(k) = disassembly::finish(listed.place, room) {
+    if let Ok(k) = disassembly::finish(listed.place, room) {
         write(checks::first(room, k));
     }
 }

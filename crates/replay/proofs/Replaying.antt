@@ -4,6 +4,7 @@ use mathlib.Core.List.{List}
 use Prim.Native.Nat.{ℕ, ◌≤◌, ◌<◌}
 use native.Mathlib.Omega.{arith}
 use lib.ListN.{length}
+use Rattle.capture.specs.declared.Contents.{Contents}
 use Rattle.storage.proofs.Sizes.{legal-length}
 use Rattle.machine.specs.declared.Bench.{Bench}
 use Rattle.machine.specs.declared.Ended.{Ended}
@@ -14,9 +15,6 @@ use Rattle.machine.proofs.Theorems.{run_keeps}
 use Rattle.capture.specs.Format.{Capture, capture_of, bytes_of_capture, Holds}
 use Rattle.capture.specs.Outcomes.{write_of, room_written, Buffers, Reads, longest}
 use Rattle.capture.specs.Claims.{in_buffers}
-use Rattle.capture.specs.declared.Reading.{Reading}
-use Rattle.capture.specs.declared.Reading.TheVariants.{Contents}
-use Rattle.capture.specs.declared.Written.{Written}
 use Rattle.capture.proofs.Captures.{length_capture}
 use Rattle.capture.proofs.Theorems.{every_write, suffices, read_then_write}
 use Rattle.replay.specs.Replays.{machine_of, end_of_run, after_run, Replays, told}
@@ -43,19 +41,20 @@ module _ (file : List ℕ) (c : Capture) (h : Holds file c) where
       let w = every_write (after_run c) room in
       let (a, b) = w.written (w.accepts.1 (passes, (h.lawful.words_most, fits))) in
       ran c h
-      (e ∙ ap (λ (a : Written). told c.bench (length c.words) (end_of_run c) a) a ∙ rw same_length)
+      (e ∙ ap (λ (a : Result ℕ Refusal). told c.bench (length c.words) (end_of_run c) a) a ∙ rw same_length)
       (f ∙ b)
 
-pub replay_ran : {file : List ℕ} {before after : Buffers} {a : Reading} {b : Bench} {n : ℕ} → Reads file before a after → a ≡ Contents b n
+pub replay_ran : {file : List ℕ} {before after : Buffers} {a : Result Contents Refusal} {k : Contents} → Reads file before a after → a ≡ Ok k
     → (r : Result Ran Refusal) (room next : List ℕ) → longest ≤ length room
-    → (let c = in_buffers b n after in r ≡ told b (length c.words) (end_of_run c) (write_of (after_run c) (length room)))
-    → next ≡ room_written (after_run (in_buffers b n after)) room → Replays file room r next
-replay_ran {file} {before} {after} {b = b} {n = n} q e =
-    written file (in_buffers b n after) (read_then_write file before after b n (subst (λ (a : Reading). Reads file before a after) e q)).holds
+    → (let c = in_buffers k.bench k.words after in r ≡ told k.bench (length c.words) (end_of_run c) (write_of (after_run c) (length room)))
+    → next ≡ room_written (after_run (in_buffers k.bench k.words after)) room → Replays file room r next
+replay_ran {file} {before} {after} {k = k} q e =
+    written file (in_buffers k.bench k.words after)
+    (read_then_write file before after k.bench k.words (subst (λ (a : Result Contents Refusal). Reads file before a after) e q)).holds
 
 -- a run, and what it left written, by what both functions answered
 module _ (b : Bench) (ws z p za : List ℕ) where
-  pub run_told : (left room : List ℕ) {next : List ℕ} {e : Ended} {a : Written} → left ≡ (run_left (on b z p za) ws).za → e ≡ run_of (on b z p za) ws
+  pub run_told : (left room : List ℕ) {next : List ℕ} {e : Ended} {a : Result ℕ Refusal} → left ≡ (run_left (on b z p za) ws).za → e ≡ run_of (on b z p za) ws
       → a ≡ write_of (capture_of b ws z p left) (length room) → next ≡ room_written (capture_of b ws z p left) room
       → (let c = capture_of b ws z p (run_left (on b z p za) ws).za in
       record {
@@ -63,7 +62,7 @@ module _ (b : Bench) (ws z p za : List ℕ) where
         room_after : next ≡ room_written c room;
       })
   run_told left room l e a n = record {
-    answer = ap₂ (λ (e : Ended) (a : Written). told b (length ws) e a) e (a ∙ ap (λ (za : List ℕ). write_of (capture_of b ws z p za) (length room)) l);
+    answer = ap₂ (λ (e : Ended) (a : Result ℕ Refusal). told b (length ws) e a) e (a ∙ ap (λ (za : List ℕ). write_of (capture_of b ws z p za) (length room)) l);
     room_after = n ∙ ap (λ (za : List ℕ). room_written (capture_of b ws z p za) room) l;
   }
 

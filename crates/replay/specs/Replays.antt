@@ -7,8 +7,6 @@ use Rattle.machine.specs.Machine.{Machine, on}
 use Rattle.machine.specs.Lists.{run_of, run_left}
 use Rattle.capture.specs.Format.{Capture, capture_of, bytes_of_capture, Holds}
 use Rattle.capture.specs.Outcomes.{over, Refuses}
-use Rattle.capture.specs.declared.Written.{Written}
-use Rattle.capture.specs.declared.Written.TheVariants.{Length, Refused as NotWritten}
 use Rattle.replay.specs.declared.Ran.{Ran}
 
 -- what the run of a capture begins on, how it ends, and the capture with ZA as it is then
@@ -32,6 +30,6 @@ pub data Replays (file before : List ℕ) (r : Result Ran Refusal) (after : List
   refused : (q : Refusal) → Refuses file q → r ≡ Err q → after ≡ before → Replays file before r after
 
 -- a run and what write answers of it
-abbrev pub told : Bench → ℕ → Ended → Written → Result Ran Refusal
-told b words ended (Length n) = Ok (ran_on b words ended n)
-told b words ended (NotWritten r) = Err r
+abbrev pub told : Bench → ℕ → Ended → Result ℕ Refusal → Result Ran Refusal
+told b words ended (Ok n) = Ok (ran_on b words ended n)
+told b words ended (Err r) = Err r

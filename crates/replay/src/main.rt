@@ -11,11 +11,9 @@ ghost use Rattle.capture.specs.Outcomes.{buffers, write_of, room_written, longes
 ghost use Rattle.replay.specs.Replays.{Replays, told};
 ghost use Rattle.replay.specs.Changes.{changed_in};
 
-use capture::{Reading, Written};
 use checks::{InputError, STDERR_FILENO, STDOUT_FILENO};
 use isa::Refusal;
-use machine::{Bench, Ended, Outcome};
-use text::Printed;
+use machine::{Bench, Ended};
 
 // A file that was run: on which bench, so many words, how the run ended, and as how many bytes it stands in a room.
 #[derive(Clone, Copy)]
@@ -70,20 +68,17 @@ fn replay_file(
     requires { Roomy (buffers words.old z.old p.old za.old) × (longest ≤ length room.old) }
     ensures { Replays file.now room.old result room.new }
 {
-    match capture::read(file, words, z, p, za) {
-        Reading::Refused(r) => Err(r),
-        Reading::Contents { bench, words: n } => {
-            let vb = bench.vb;
-            run_and_write(
-                bench,
-                &words[..n],
-                &z[..32 * vb],
-                &p[..2 * vb],
-                &mut za[..vb * vb],
-                room,
-            )
-        }
-    }
+    let contents = capture::read(file, words, z, p, za)?;
+    let n = contents.words;
+    let vb = contents.bench.vb;
+    run_and_write(
+        contents.bench,
+        &words[..n],
+        &z[..32 * vb],
+        &p[..2 * vb],
+        &mut za[..vb * vb],
+        room,
+    )
 }
 
 // Runs words on a bench, and puts the capture with ZA as the run left it at the start of room.
@@ -99,15 +94,13 @@ fn run_and_write(
     ensures room_after { room.new ≡ room_written (capture_of bench words.now z.now p.now (run_left (on bench z.now p.now za.old) words.now).za) room.old }
 {
     let ended = machine::run(bench, z, p, za, words);
-    match capture::write(bench, words, z, p, za, room) {
-        Written::Refused(r) => Err(r),
-        Written::Length(length) => Ok(Ran {
-            bench,
-            words: words.len(),
-            ended,
-            length,
-        }),
-    }
+    let length = capture::write(bench, words, z, p, za, room)?;
+    Ok(Ran {
+        bench,
+        words: words.len(),
+        ended,
+        length,
+    })
 }
 
 // The bench: flags with their features, modes, vector length.
@@ -146,7 +139,7 @@ fn write_end(words: &[u32], ended: Ended) {
     part(b", executed ", ended.count as u64);
     tell(b"\n");
     let outcome = ended.outcome;
-    let Outcome::Refused(r) = outcome else {
+    let Err(r) = outcome else {
         return;
     };
     let place = ended.count;
@@ -169,7 +162,7 @@ fn write_word(word: u32) {
     tell(b", ");
     io::print_hex(STDERR_FILENO, word as u64, 8);
     let mut room = [0u8; 47];
-    if let Printed::Length(n) = text::print(15, word, &mut room) {
+    if let Ok(n) = text::print(15, word, &mut room) {
         tell(b", ");
         tell(checks::first(&room, n));
     }

@@ -2,9 +2,9 @@
 // tile too few, the run stops at the word that would have added to old sums; with all of ZA cleared first, it ends the same.
 #![tactic(auto)]
 
+use isa::Refusal;
 use checks::{Fill, STDOUT_FILENO, part};
-use machine::{Bench, Outcome};
-use text::Printed;
+use machine::Bench;
 
 const FLAGS: u32 = 15;
 
@@ -65,16 +65,16 @@ fn run_from_both(name: &[u8], z: &[u8], p: &[u8], words: &[u32]) {
     write_stop(words, ended.count, outcome);
 }
 
-fn number_of(outcome: Outcome) -> u64 {
+fn number_of(outcome: Result<(), Refusal>) -> u64 {
     match outcome {
-        Outcome::Done => 0,
-        Outcome::Refused(r) => isa::number(r) as u64,
+        Ok(()) => 0,
+        Err(r) => isa::number(r) as u64,
     }
 }
 
 // The word at which a run stopped, if it did: its place in the list, its text and the refusal.
-fn write_stop(words: &[u32], place: usize, outcome: Outcome) {
-    let Outcome::Refused(r) = outcome else {
+fn write_stop(words: &[u32], place: usize, outcome: Result<(), Refusal>) {
+    let Err(r) = outcome else {
         return;
     };
     let Some(&word) = words.get(place) else {
@@ -114,7 +114,7 @@ fn old_sums() -> [u8; 256] {
 
 fn write_text(word: u32) {
     let mut room = [0u8; 47];
-    if let Printed::Length(n) = text::print(FLAGS, word, &mut room) {
+    if let Ok(n) = text::print(FLAGS, word, &mut room) {
         io::write_all(STDOUT_FILENO, checks::first(&room, n));
     }
 }

@@ -5,7 +5,6 @@
 ghost use Rattle.std.specs.Prelude.{◌≡◌, ◌≤◌, length};
 
 use checks::{Fill, STDOUT_FILENO, differing, generate, next, part};
-use isa::Decoded;
 use machine::Bench;
 
 const ALL_FEATURES: u32 = 15;
@@ -135,8 +134,8 @@ fn accepted(words: &[u32]) -> u64 {
 // With both modes on, a word is accepted if decode accepts it.
 fn is_accepted(word: u32) -> bool {
     match isa::decode(ALL_FEATURES, word) {
-        Decoded::Accepted(_) => true,
-        Decoded::Refused(_) => false,
+        Ok(_) => true,
+        Err(_) => false,
     }
 }
 
