@@ -8,8 +8,9 @@ use Rattle.storage.specs.Sizes.{legal}
 use Rattle.storage.proofs.Sizes.{Length, legal-length}
 use Rattle.outer.specs.declared.Operand.{Operand}
 use Rattle.outer.specs.declared.OuterProduct.{OuterProduct}
+use Rattle.outer.specs.declared.task.Task.{Task}
 use Rattle.outer.specs.Products.{register_at, Shaped, bytes32, halves64, halves32, GoodOperand, Ready}
-use Rattle.outer.specs.Walks.{FourOrEight, four, eight, ByteOrHalf, byte, half, Sources, same_until, SameUntil}
+use Rattle.outer.specs.Walks.{FourOrEight, four, eight, ByteOrHalf, byte, half, same_until, SameUntil}
 use Rattle.outer.proofs.Progress.{Tiled}
 
 -- ---- sizes
@@ -90,14 +91,6 @@ register_lt o n i g = go (ltb i (n / 2))
     go true = g.low
     go false = g.high
 
--- a register that was looked up, of as many rows or columns as there are
-pub looked_up : {n m r : ℕ} (o : Operand) (i : ℕ) → GoodOperand o → n ≡ m → r ≡ register_at o n i → (r ≡ register_at o m i) × (r < 32)
-looked_up {n} o i g e q = rw (q, ← e) (refl, register_lt o n i g)
-
-sources : {E vb : ℕ} {o : OuterProduct} {s : Operand} {z p : List ℕ} {register : ℕ} → Ready E vb o z p → GoodOperand s → register < 32
-    → Sources vb s register z p
-sources r g h = record { length_legal = r.length_legal; z_sized = r.z_sized; p_sized = r.p_sized; predication = g.predication; register_in = h }
-
 -- element i, of B bytes, of a register
 pub record Spot (vb register i B : ℕ) : Type 0 where
   pub some : 0 < B
@@ -109,15 +102,15 @@ spot {vb} l h u e =
     let n = legal-length vb l in
     record { some = half_some u; inside = omega (arith, mul-le-mul_right vb h); small = omega arith }
 
--- element K * c + j of a register, for product j of row or column c
-pub record Numbered (E K vb c j : ℕ) : Type 0 where
-  pub inside : (K * c + j) * (E / K) + E / K ≤ vb
+-- element K * c + j of a register, of B bytes, for product j of row or column c
+pub record Numbered (B K vb c j : ℕ) : Type 0 where
+  pub inside : (K * c + j) * B + B ≤ vb
   pub number : K * c + j < vb
   pub small : vb ≤ 256
   pub column : c < 64
   pub product : j < 4
   pub some : 0 < K
-  pub wide : 0 < E / K
+  pub wide : 0 < B
 
 -- the last byte of element K * i + k, of B bytes, lies in its register
 last_byte : (vb K B i k : ℕ) → 0 < B → i < vb / (K * B) → k < K → (K * i + k) * B + (B - 1) < vb
@@ -131,13 +124,13 @@ few_columns : {E : ℕ} → FourOrEight E → (vb : ℕ) → Length vb → vb / 
 few_columns four vb n = omega arith
 few_columns eight vb n = omega arith
 
-pub numbered : {E K : ℕ} → Shaped E K → {vb c j : ℕ} → legal vb ≡ true → c < vb / E → j < K → Numbered E K vb c j
-numbered {E} {K} sh {vb} {c} {j} l h k =
+pub numbered : {B E K : ℕ} → Shaped E K → B ≡ E / K → {vb c j : ℕ} → legal vb ≡ true → c < vb / E → j < K → Numbered B K vb c j
+numbered {B} {E} {K} sh e {vb} {c} {j} l h k =
     let s = shape sh in
     let n = legal-length vb l in
-    let b : 0 < E / K = half_some s.source in
-    let i = last_byte vb K (E / K) c j b (rw s.whole h) k in
-    let m : (K * c + j) * 1 ≤ (K * c + j) * (E / K) = mul-le-mul_left (K * c + j) b in
+    let b : 0 < B = rw e (half_some s.source) in
+    let i = last_byte vb K B c j b (rw (e, s.whole) h) k in
+    let m : (K * c + j) * 1 ≤ (K * c + j) * B = mul-le-mul_left (K * c + j) b in
     record {
       inside = omega arith;
       number = omega arith;
@@ -148,11 +141,28 @@ numbered {E} {K} sh {vb} {c} {j} l h k =
       wide = b;
     }
 
--- what reading it asks
-pub element_asks : {vb : ℕ} {o : OuterProduct} {z p : List ℕ} {s : Operand} {register b c j : ℕ} → Shaped o.element o.products
-    → Ready o.element vb o z p → GoodOperand s → register < 32 → b ≡ o.element / o.products → c < vb / o.element → j < o.products
-    → ByteOrHalf b × (Sources vb s register z p × ((o.products * c + j) * b + b ≤ vb))
-element_asks sh r g h e k l = rw e ((shape sh).source, (sources r g h, (numbered sh r.length_legal k l).inside))
+-- of a task
+pub few_products : (t : Task) → t.o.products ≤ 4
+few_products t = (shape t.shaped).few
+
+pub few_columns_of : (t : Task) → t.vb / t.o.element ≤ 64
+few_columns_of t = few_columns (shape t.shaped).element t.vb (legal-length t.vb t.ready.length_legal)
+
+pub element_inside : (t : Task) (c j : ℕ) → c < t.vb / t.o.element → j < t.o.products
+    → (t.o.products * c + j) * (t.o.element / t.o.products) + t.o.element / t.o.products ≤ t.vb
+element_inside t c j h k = (numbered t.shaped refl t.ready.length_legal h k).inside
+
+pub number_lt : (t : Task) (c j : ℕ) → c < t.vb / t.o.element → j < t.o.products → t.o.products * c + j < 256
+number_lt t c j h k =
+    let n = numbered t.shaped refl t.ready.length_legal h k in
+    omega arith
+
+module _ (t : Task) {B : ℕ} (e : B ≡ t.o.element / t.o.products) where
+  pub element_in : {c j : ℕ} → c < t.vb / t.o.element → j < t.o.products → Numbered B t.o.products t.vb c j
+  element_in h k = numbered t.shaped e t.ready.length_legal h k
+
+  pub spot_in : {register i : ℕ} → register < 32 → i * B + B ≤ t.vb → Spot t.vb register i B
+  spot_in h i = spot t.ready.length_legal h (rw e (shape t.shaped).source) i
 
 -- ---- where an operand's register changes
 same_until_lem : (o : Operand) (n from : ℕ) → from < n → SameUntil o n from (same_until o n from)

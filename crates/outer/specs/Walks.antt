@@ -1,12 +1,15 @@
 -- The words of the walks' own contracts: sizes, what the fast walk's two arrays hold, and elements of a tile counted row by
 -- row. Over the size E of a tile element in bytes and the number K of products, or over an outer product, which has both.
-use Rattle.std.specs.Prelude.{◌≡◌, ℕ, ◌+◌, ◌*◌, ◌/◌, ◌^◌, ◌<◌, ◌≤◌, true, cond, ◌&&◌, List, length, ℤ, pos, ◌*ℤ◌, ◌==◌, nat_le, nat_lt, slice_index_or}
+use Rattle.std.specs.Prelude.{◌≡◌, refl, ℕ, ◌+◌, ◌*◌, ◌/◌, ◌^◌, ◌<◌, ◌≤◌, true, cond, ◌&&◌, List, length, ℤ, pos, ◌*ℤ◌, ◌==◌, nat_le, nat_lt, slice_index_or}
 use Rattle.std.specs.Int.Signed.{mag}
 use Rattle.storage.specs.Sizes.{legal, z_size, p_size, za_size}
 use Rattle.storage.specs.Tile.{add_to}
 use Rattle.outer.specs.declared.Operand.{Operand}
 use Rattle.outer.specs.declared.OuterProduct.{OuterProduct}
-use Rattle.outer.specs.Products.{interpret, register_at, source_element, active, sum, directed, sums, GoodPredication}
+use Rattle.std.specs.Coded.{×_prop, Unit-prop, le_prop}
+use Rattle.outer.specs.declared.Predication.{Predication}
+use Rattle.outer.specs.declared.Predication.TheVariants.{Unpredicated, By}
+use Rattle.outer.specs.Products.{Shaped, bytes32, halves64, halves32, interpret, register_at, source_element, active, sum, directed, sums, GoodPredication}
 
 -- the bytes of a tile element, and of a source element
 pub data FourOrEight : ℕ → Type 0 where
@@ -106,3 +109,14 @@ pub record Part (E K vb tile row from to : ℕ) (xs ys : List ℤ) (za : List �
   pub ys_long : length ys ≡ 256
   pub xs_small : (j : ℕ) → j < K → mag (signed_at xs (2 * j)) ≤ 256 ^ (E / K)
   pub ys_small : (c j : ℕ) → c < vb / E → j < K → mag (signed_at ys (64 * j + c)) ≤ 256 ^ (E / K)
+
+-- ---- at most one proof of each
+
+pub Shaped-prop : {E K : ℕ} → IsProp (Shaped E K)
+Shaped-prop bytes32 bytes32 = refl
+Shaped-prop halves64 halves64 = refl
+Shaped-prop halves32 halves32 = refl
+
+pub GoodPredication-prop : (p : Predication) → IsProp (GoodPredication p)
+GoodPredication-prop Unpredicated = Unit-prop
+GoodPredication-prop (By q) = le_prop

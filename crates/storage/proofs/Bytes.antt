@@ -147,10 +147,12 @@ bytes_low_first_is k (suc E) v =
     let d : v / 256 ^ suc k ≡ v / 256 ^ k / 256 = ap (λ (n : ℕ). v / n) (pow-suc 256 k) ∙ sym (div-div-eq-div-mul v (256 ^ k) 256) in
     rw (byte_at_is k v, bytes_low_first_is (suc k) E v, d)
 
--- the E bytes of v, written over a part of s
+-- a part of s written over, as a run of stores
+pub part_put : (i k : ℕ) (s vs : List ℕ) → k ≡ length vs → i + k ≤ length s → put_mid i k s vs ≡ sets s i vs
+part_put i k s vs e h = rw (e, drop-drop) (sym (sets-eq vs s i (rw e at h) ∙ append_assoc (take i s) vs _))
+
+-- and by the E bytes of v
 pub part_stored : (E v i k : ℕ) (s bytes : List ℕ) → i + E ≤ length s → k ≡ E → bytes ≡ bytes_low_first 0 E v → put_mid i k s bytes ≡ sets s i (bytes_of E v)
 part_stored E v i k s bytes h e q =
     let b : bytes ≡ bytes_of E v = q ∙ bytes_low_first_is 0 E v ∙ ap (bytes_of E) (div-one v) in
-    let l : length bytes ≡ E = rw b (length_bytes_of E v) in
-    let f : i + length bytes ≤ length s = omega arith in
-    rw (e, ← b, drop-drop, ← l) (sym (sets-eq bytes s i f ∙ append_assoc (take i s) bytes _))
+    rw b (part_put i k s (bytes_of E v) (e ∙ sym (length_bytes_of E v)) (rw (sym e) at h))
