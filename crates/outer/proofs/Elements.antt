@@ -10,7 +10,7 @@ use Rattle.outer.specs.declared.Predication.TheVariants.{Unpredicated, By}
 use Rattle.outer.specs.declared.Operand.{Operand}
 use Rattle.outer.specs.declared.OuterProduct.{OuterProduct}
 use Rattle.outer.specs.Products.{interpret, register_at, active, product, sum, directed, directed_product}
-use Rattle.outer.specs.Walks.{ByteOrHalf, value_of, Valued, ValuedIn, Turned, signed_at, plane_product}
+use Rattle.outer.specs.Walks.{ByteOrHalf, value_of, Valued, ValuedIn, Turned}
 use Rattle.outer.proofs.Progress.{sum_turn}
 use Rattle.outer.proofs.Signed.{half_small, read_back, x32, mag_neg, negation_is, *ℤ-directed}
 

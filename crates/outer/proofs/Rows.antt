@@ -1,5 +1,5 @@
 -- Clearing a row, and the rows of a mask row by row. Assumes nothing.
-use Rattle.std.proofs.Common.{◌≡◌, ℕ, ◌+◌, ◌-◌, ◌*◌, ◌/◌, ◌%◌, ◌<◌, ◌≤◌, Bool, true, false, cond, ◌&&◌, eqb, ltb, List, length, replicate, drop, length-drop, ◌⊎◌, inl, inr, sym, refl, ap, ◌∙◌, mod-lt, div-lt_iff_lt-mul, div-add-mod', arith, ext_get_or, le-ltb, lt-ltb, eq-eqb, ne_eqb}
+use Rattle.std.proofs.Common.{◌≡◌, ℕ, ◌+◌, ◌-◌, ◌*◌, ◌/◌, ◌%◌, ◌<◌, ◌≤◌, Bool, true, cond, ◌&&◌, eqb, ltb, List, length, replicate, drop, length-drop, ◌⊎◌, inl, inr, sym, refl, ap, ◌∙◌, mod-lt, div-lt_iff_lt-mul, div-add-mod', arith, ext_get_or, lt-ltb, eq-eqb, ne_eqb}
 use native.Mathlib.Decide.{ℕ_discrete, dec_lt}
 use lib.Arith.{digits_div}
 use lib.Seq.{sets, length-sets}
@@ -45,39 +45,9 @@ row_cleared vb mask row k before zeros h e s y b =
             let i : p - row * vb < vb = omega arith in
             absurd (d (ap (λ (q : ℕ). q / vb) (sym m) ∙ digits_div row i))
 
--- a row that the mask has not is left as it is
-pub not-masked : (vb mask row : ℕ) (za : List ℕ) → masked mask row ≡ false → Cleared vb (only mask row) za za
-not-masked vb mask row za e = record { long = refl; bytes = λ p. go p (ℕ_discrete (p / vb) row) }
-  where
-    go : (p : ℕ) → Dec (p / vb ≡ row) → at za p ≡ cond (only mask row (p / vb)) 0 (at za p)
-    go p (yes q) = rw (q, eq-eqb row row refl, e)
-    go p (no d) = rw (ne_eqb (p / vb) row d)
-
 -- ---- the rows of a mask, row by row
 abbrev pub below : ℕ → ℕ → ℕ → Bool
 below mask row r = ltb r row && masked mask r
-
-pub rows_none : (vb mask : ℕ) (za : List ℕ) → Cleared vb (below mask 0) za za
-rows_none vb mask za = record { long = refl; bytes = λ p. sym (rw (le-ltb (p / vb) 0 (omega arith))) }
-
--- one row more
-pub rows_more : (vb mask row : ℕ) (before za after : List ℕ) → Cleared vb (below mask row) before za → Cleared vb (only mask row) za after
-    → Cleared vb (below mask (row + 1)) before after
-rows_more vb mask row before za after c d =
-    record {
-      long = d.long ∙ c.long;
-      bytes =
-          λ p.
-          d.bytes p
-          ∙ ap (λ (x : ℕ). cond (only mask row (p / vb)) 0 x) (c.bytes p)
-          ∙ go (p / vb) (at before p) (masked mask (p / vb)) (ℕ_discrete (p / vb) row) (dec_lt (p / vb) row);
-    }
-  where
-    go : (r x : ℕ) (m : Bool) → Dec (r ≡ row) → Dec (r < row) → cond (eqb r row && m) 0 (cond (ltb r row && m) 0 x) ≡ cond (ltb r (row + 1) && m) 0 x
-    go r x true (yes q) l = rw (eq-eqb r row q, lt-ltb r (row + 1) (omega arith))
-    go r x false (yes q) l = rw (eq-eqb r row q, lt-ltb r (row + 1) (omega arith), le-ltb r row (omega arith))
-    go r x m (no q) (yes l) = rw (ne_eqb r row q, lt-ltb r row l, lt-ltb r (row + 1) (omega arith))
-    go r x m (no q) (no l) = rw (ne_eqb r row q, le-ltb r row (omega arith), le-ltb r (row + 1) (omega arith))
 
 pub rows_all : (vb mask : ℕ) (before za : List ℕ) → 0 < vb → length before ≡ vb * vb → Cleared vb (below mask vb) before za
     → za ≡ clear vb mask before

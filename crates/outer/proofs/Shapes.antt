@@ -1,8 +1,7 @@
 -- What a shape gives: elements of its size fill a row, its products fill an element, and source elements lie in their
 -- registers. Assumes nothing.
-use Rattle.std.proofs.Common.{◌≡◌, ℕ, suc, ◌+◌, ◌-◌, ◌*◌, ◌/◌, ◌^◌, ◌<◌, ◌≤◌, Bool, true, false, cond, ltb, List, ℤ, sym, refl, le_refl, mul-le-mul_right, mul-le-mul_left, le-div_iff_mul-le, arith, lit<, lit≤, le-ltb, lt-ltb, eq-eqb, ne_eqb}
+use Rattle.std.proofs.Common.{◌≡◌, ℕ, suc, ◌+◌, ◌-◌, ◌*◌, ◌/◌, ◌^◌, ◌<◌, ◌≤◌, Bool, true, false, cond, ltb, List, ℤ, refl, mul-le-mul_right, mul-le-mul_left, le-div_iff_mul-le, arith, lit<, lit≤}
 use native.Mathlib.Nat.{div_self}
-use native.Mathlib.Decide.{ℕ_discrete, dec_lt}
 use Rattle.storage.specs.Modulo.{plus}
 use Rattle.storage.specs.Sizes.{legal}
 use Rattle.storage.proofs.Sizes.{Length, legal-length}
@@ -10,7 +9,7 @@ use Rattle.outer.specs.declared.Operand.{Operand}
 use Rattle.outer.specs.declared.OuterProduct.{OuterProduct}
 use Rattle.outer.specs.declared.task.Task.{Task}
 use Rattle.outer.specs.Products.{register_at, Shaped, bytes32, halves64, halves32, GoodOperand, Ready}
-use Rattle.outer.specs.Walks.{FourOrEight, four, eight, ByteOrHalf, byte, half, same_until, SameUntil}
+use Rattle.outer.specs.Walks.{FourOrEight, four, eight, ByteOrHalf, byte, half}
 use Rattle.outer.proofs.Progress.{Tiled}
 
 -- ---- sizes
@@ -69,9 +68,6 @@ of_neither bytes32 d t = (refl, refl)
 of_neither halves64 d t = absurd (d refl)
 of_neither halves32 d t = absurd (t refl)
 
-pub shaped_as : {E K F L : ℕ} → (E ≡ F) × (K ≡ L) → Shaped E K → Shaped F L
-shaped_as e h = rw (e.0, e.1) at h
-
 pub tiled : {E K : ℕ} → Shaped E K → {vb tile : ℕ} → legal vb ≡ true → tile < E → Tiled E vb tile
 tiled sh {vb} {tile} l h = go (shape sh).element (legal-length vb l) h
   where
@@ -102,15 +98,15 @@ spot {vb} l h u e =
     let n = legal-length vb l in
     record { some = half_some u; inside = omega (arith, mul-le-mul_right vb h); small = omega arith }
 
--- element K * c + j of a register, of B bytes, for product j of row or column c
-pub record Numbered (B K vb c j : ℕ) : Type 0 where
-  pub inside : (K * c + j) * B + B ≤ vb
+-- element K * c + j of a register, for product j of row or column c
+pub record Numbered (E K vb c j : ℕ) : Type 0 where
+  pub inside : (K * c + j) * (E / K) + E / K ≤ vb
   pub number : K * c + j < vb
   pub small : vb ≤ 256
   pub column : c < 64
   pub product : j < 4
   pub some : 0 < K
-  pub wide : 0 < B
+  pub wide : 0 < E / K
 
 -- the last byte of element K * i + k, of B bytes, lies in its register
 last_byte : (vb K B i k : ℕ) → 0 < B → i < vb / (K * B) → k < K → (K * i + k) * B + (B - 1) < vb
@@ -124,13 +120,13 @@ few_columns : {E : ℕ} → FourOrEight E → (vb : ℕ) → Length vb → vb / 
 few_columns four vb n = omega arith
 few_columns eight vb n = omega arith
 
-pub numbered : {B E K : ℕ} → Shaped E K → B ≡ E / K → {vb c j : ℕ} → legal vb ≡ true → c < vb / E → j < K → Numbered B K vb c j
-numbered {B} {E} {K} sh e {vb} {c} {j} l h k =
+pub numbered : {E K : ℕ} → Shaped E K → {vb c j : ℕ} → legal vb ≡ true → c < vb / E → j < K → Numbered E K vb c j
+numbered {E} {K} sh {vb} {c} {j} l h k =
     let s = shape sh in
     let n = legal-length vb l in
-    let b : 0 < B = rw e (half_some s.source) in
-    let i = last_byte vb K B c j b (rw (e, s.whole) h) k in
-    let m : (K * c + j) * 1 ≤ (K * c + j) * B = mul-le-mul_left (K * c + j) b in
+    let b : 0 < E / K = half_some s.source in
+    let i = last_byte vb K (E / K) c j b (rw s.whole h) k in
+    let m : (K * c + j) * 1 ≤ (K * c + j) * (E / K) = mul-le-mul_left (K * c + j) b in
     record {
       inside = omega arith;
       number = omega arith;
@@ -150,40 +146,18 @@ few_columns_of t = few_columns (shape t.shaped).element t.vb (legal-length t.vb 
 
 pub element_inside : (t : Task) (c j : ℕ) → c < t.vb / t.o.element → j < t.o.products
     → (t.o.products * c + j) * (t.o.element / t.o.products) + t.o.element / t.o.products ≤ t.vb
-element_inside t c j h k = (numbered t.shaped refl t.ready.length_legal h k).inside
+element_inside t c j h k = (numbered t.shaped t.ready.length_legal h k).inside
 
 pub number_lt : (t : Task) (c j : ℕ) → c < t.vb / t.o.element → j < t.o.products → t.o.products * c + j < 256
 number_lt t c j h k =
-    let n = numbered t.shaped refl t.ready.length_legal h k in
+    let n = numbered t.shaped t.ready.length_legal h k in
     omega arith
 
+-- whose source elements have B bytes
 module _ (t : Task) {B : ℕ} (e : B ≡ t.o.element / t.o.products) where
-  pub element_in : {c j : ℕ} → c < t.vb / t.o.element → j < t.o.products → Numbered B t.o.products t.vb c j
-  element_in h k = numbered t.shaped e t.ready.length_legal h k
+  pub element_in : {c j : ℕ} → c < t.vb / t.o.element → j < t.o.products
+      → ((t.o.products * c + j) * B + B ≤ t.vb) × (t.o.products * c + j < t.vb) × (t.vb ≤ 256) × (0 < B)
+  element_in h k = let n = numbered t.shaped t.ready.length_legal h k in rw e (n.inside, n.number, n.small, n.wide)
 
   pub spot_in : {register i : ℕ} → register < 32 → i * B + B ≤ t.vb → Spot t.vb register i B
   spot_in h i = spot t.ready.length_legal h (rw e (shape t.shaped).source) i
-
--- ---- where an operand's register changes
-same_until_lem : (o : Operand) (n from : ℕ) → from < n → SameUntil o n from (same_until o n from)
-same_until_lem o n from h = go (ℕ_discrete o.low.0 o.high.0) (dec_lt from (n / 2))
-  where
-    alike : o.low.0 ≡ o.high.0 → (s t : Bool) → cond s o.low.0 o.high.0 ≡ cond t o.low.0 o.high.0
-    alike e true true = refl
-    alike e true false = e
-    alike e false true = sym e
-    alike e false false = refl
-
-    go : Dec (o.low.0 ≡ o.high.0) → Dec (from < n / 2) → SameUntil o n from (same_until o n from)
-    go (yes e) l =
-        rw (eq-eqb o.low.0 o.high.0 e)
-        (record { more = h; inside = le_refl n; same = λ i a b. alike e (ltb i (n / 2)) (ltb from (n / 2)) })
-    go (no d) (yes l) =
-        rw (ne_eqb o.low.0 o.high.0 d, lt-ltb from (n / 2) l)
-        (record { more = l; inside = omega arith; same = λ i a b. rw (lt-ltb i (n / 2) b, lt-ltb from (n / 2) l) })
-    go (no d) (no l) =
-        rw (ne_eqb o.low.0 o.high.0 d, le-ltb from (n / 2) (omega arith))
-        (record { more = h; inside = le_refl n; same = λ i a b. rw (le-ltb i (n / 2) (omega arith), le-ltb from (n / 2) (omega arith)) })
-
-pub one_register : {o : Operand} {n m from to : ℕ} → n ≡ m → from < n → to ≡ same_until o n from → SameUntil o m from to
-one_register {o} {n} {m} {from} e h q = rw (q, ← e) (same_until_lem o n from h)

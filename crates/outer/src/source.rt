@@ -60,7 +60,8 @@ impl Task<'_> {
 
     // Whether a source's element that starts at a vector byte is active.
     pub(crate) fn is_active(&self, source: Operand, byte: usize) -> bool
-        requires { GoodPredication source.predication × (byte < self.now.vb) }
+        requires predication { GoodPredication source.predication }
+        requires byte_bound { byte < self.now.vb }
         ensures { result ≡ active 1 self.now.vb self.now.p.now source.predication byte }
     {
         match source.predication {

@@ -47,8 +47,7 @@ store-requires-clause-four_or_eight c = (shape c.requires.shaped).element
 
 pub store-requires-clause-e_in_bounds : goal.store-requires-clause-e_in_bounds
 store-requires-clause-e_in_bounds c =
-    let t = on_tile c.requires.shaped c.requires.ready in
-    (
+    let t = on_tile c.requires.shaped c.requires.ready in (
       omega (arith, placed t (rw c.columns-dim.ensures at c.loop-row-test.true) (rw c.columns-dim.ensures at c.loop-col-test.true), since_size t c.loop-col.invariant),
       rw c.loop-k.invariant (plus_lt _ _ _),
     )

@@ -1,5 +1,5 @@
 -- `outer::task::Task::add_columns` meets its contract: the columns before c have their products added. Assumes nothing.
-use Rattle.std.proofs.Common.{◌≡◌, ◌+◌, ◌*◌, ◌/◌, ◌^◌, ◌<◌, ◌≤◌, pos, refl, ap, ◌∙◌, arith}
+use Rattle.std.proofs.Common.{◌≡◌, ◌+◌, ◌*◌, ◌/◌, ◌<◌, pos, refl, ap, ◌∙◌, arith}
 use lib.Signed.{mag}
 use Rattle.storage.specs.Modulo.{plus}
 use Rattle.storage.specs.Tile.{start}
@@ -8,7 +8,7 @@ use Rattle.outer.specs.Walks.{signed_at}
 use Rattle.outer.proofs.Progress.{lent, since_size, since_none, since_store, plus_lt, sum-start}
 use Rattle.outer.proofs.Shapes.{shape}
 use Rattle.outer.proofs.Parts.{of_size, tile_of, place_of, product_in, row_product, first_small, second_small}
-use Rattle.outer.proofs.Signed.{half_small, back_small, long_back}
+use Rattle.outer.proofs.Signed.{half_small, long_back}
 use Rattle.outer.proofs.Elements.{sum_more}
 use Rattle.outer.proofs.task.Task.add_columns.Goals as goal
 
@@ -82,8 +82,7 @@ store-requires-clause-four_or_eight g c = of_size c.args.self.now c.requires.sha
 pub store-requires-clause-e_in_bounds : goal.store-requires-clause-e_in_bounds
 store-requires-clause-e_in_bounds g c =
     let t = c.args.self.now in
-    let e = c.requires.shape.0 in
-    (
+    let e = c.requires.shape.0 in (
       omega (arith, place_of t e c.loop-c.c c.requires.row_bound c.requires.same_until c.loop-c-test.true, since_size (tile_of t e) c.loop-c.invariant),
       rw c.loop-j.invariant (plus_lt _ _ _),
     )

@@ -16,8 +16,8 @@ overflow_add-second_byte c = omega (arith, element_in c.args.self.now c.source_b
 pub overflow_mul-second_byte-2 : goal.overflow_mul-second_byte-2
 overflow_mul-second_byte-2 c = omega (arith, element_in c.args.self.now c.source_bytes-b.ensures.is c.requires.row_bound.1 c.requires.row_bound.2)
 
-pub is_active-requires : goal.is_active-requires
-is_active-requires c = (c.args.self.now.ready.first.predication, omega (arith, element_in c.args.self.now c.source_bytes-b.ensures.is c.requires.row_bound.0 c.requires.row_bound.2))
+pub is_active-requires-clause-byte_bound : goal.is_active-requires-clause-byte_bound
+is_active-requires-clause-byte_bound c = omega (arith, element_in c.args.self.now c.source_bytes-b.ensures.is c.requires.row_bound.0 c.requires.row_bound.2)
 
 pub returns-then-not-is_active : goal.returns-then-not-is_active
 returns-then-not-is_active c =
@@ -25,8 +25,8 @@ returns-then-not-is_active c =
     first_off t.o.element t.o.products t.vb t.o t.z.now t.p.now c.args.row c.args.col c.args.k c.args.sum c.requires.sum_bound
     (valued_as c.source_bytes-b.ensures.is (valued_off _ _ _ _ _ _ _ c.is_active.ensures c.if-not-is_active.true))
 
-pub is_active-requires-2 : goal.is_active-requires-2
-is_active-requires-2 c = (c.args.self.now.ready.second.predication, omega (arith, element_in c.args.self.now c.source_bytes-b.ensures.is c.requires.row_bound.1 c.requires.row_bound.2))
+pub is_active-requires-2-clause-byte_bound : goal.is_active-requires-2-clause-byte_bound
+is_active-requires-2-clause-byte_bound c = omega (arith, element_in c.args.self.now c.source_bytes-b.ensures.is c.requires.row_bound.1 c.requires.row_bound.2)
 
 pub returns-then-not-is_active-2 : goal.returns-then-not-is_active-2
 returns-then-not-is_active-2 c =
@@ -35,16 +35,16 @@ returns-then-not-is_active-2 c =
     (valued_as c.source_bytes-b.ensures.is (valued_off _ _ _ _ _ _ _ c.is_active-2.ensures c.if-not-is_active-2.true))
 
 pub overflow_add-n : goal.overflow_add-n
-overflow_add-n c = omega (arith, spot_in c.args.self.now c.source_bytes-b.ensures.is c.register_at-n.ensures.bound (element_in c.args.self.now c.source_bytes-b.ensures.is c.requires.row_bound.0 c.requires.row_bound.2).inside)
+overflow_add-n c = omega (arith, spot_in c.args.self.now c.source_bytes-b.ensures.is c.register_at-n.ensures.bound (element_in c.args.self.now c.source_bytes-b.ensures.is c.requires.row_bound.0 c.requires.row_bound.2).0)
 
 pub read-x-requires-clause-b_in_bounds : goal.read-x-requires-clause-b_in_bounds
-read-x-requires-clause-b_in_bounds c = omega (arith, spot_in c.args.self.now c.source_bytes-b.ensures.is c.register_at-n.ensures.bound (element_in c.args.self.now c.source_bytes-b.ensures.is c.requires.row_bound.0 c.requires.row_bound.2).inside, c.args.self.now.ready.z_sized)
+read-x-requires-clause-b_in_bounds c = omega (arith, spot_in c.args.self.now c.source_bytes-b.ensures.is c.register_at-n.ensures.bound (element_in c.args.self.now c.source_bytes-b.ensures.is c.requires.row_bound.0 c.requires.row_bound.2).0, c.args.self.now.ready.z_sized)
 
 pub overflow_add-m : goal.overflow_add-m
-overflow_add-m c = omega (arith, spot_in c.args.self.now c.source_bytes-b.ensures.is c.register_at-m.ensures.bound (element_in c.args.self.now c.source_bytes-b.ensures.is c.requires.row_bound.1 c.requires.row_bound.2).inside)
+overflow_add-m c = omega (arith, spot_in c.args.self.now c.source_bytes-b.ensures.is c.register_at-m.ensures.bound (element_in c.args.self.now c.source_bytes-b.ensures.is c.requires.row_bound.1 c.requires.row_bound.2).0)
 
 pub read-y-requires-clause-b_in_bounds : goal.read-y-requires-clause-b_in_bounds
-read-y-requires-clause-b_in_bounds c = omega (arith, spot_in c.args.self.now c.source_bytes-b.ensures.is c.register_at-m.ensures.bound (element_in c.args.self.now c.source_bytes-b.ensures.is c.requires.row_bound.1 c.requires.row_bound.2).inside, c.args.self.now.ready.z_sized)
+read-y-requires-clause-b_in_bounds c = omega (arith, spot_in c.args.self.now c.source_bytes-b.ensures.is c.register_at-m.ensures.bound (element_in c.args.self.now c.source_bytes-b.ensures.is c.requires.row_bound.1 c.requires.row_bound.2).0, c.args.self.now.ready.z_sized)
 
 pub returns : goal.returns
 returns c =

@@ -1,6 +1,5 @@
 -- `outer::task::Task::element` meets its contract. Assumes nothing.
-use Rattle.std.proofs.Common.{arith}
-use Rattle.outer.proofs.Shapes.{shape, spot_in}
+use Rattle.outer.proofs.Shapes.{shape}
 use Rattle.outer.proofs.Elements.{valued_off, valued_on, valued_back, valued_as}
 use Rattle.outer.proofs.task.Task.element.Goals as goal
 

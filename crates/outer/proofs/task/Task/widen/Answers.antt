@@ -1,5 +1,5 @@
 -- `outer::task::Task::widen` meets its contract: the columns before c have their elements, and column c has j. Assumes nothing.
-use Rattle.std.proofs.Common.{◌≡◌, ◌+◌, ◌*◌, ◌/◌, ◌<◌, refl, arith, w32, to_z}
+use Rattle.std.proofs.Common.{◌+◌, ◌*◌, ◌<◌, refl, arith, w32, to_z}
 use Rattle.outer.specs.Walks.{Turned}
 use Rattle.outer.proofs.Shapes.{shape, few_products, few_columns_of, number_lt}
 use Rattle.outer.proofs.Elements.{turned_taken, turned_added}
