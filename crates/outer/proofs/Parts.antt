@@ -7,6 +7,7 @@ use Rattle.outer.specs.Products.{register_at, directed_product, Shaped}
 use Rattle.outer.specs.Walks.{signed_at, Fetched, Planes, SameUntil, FourOrEight}
 use Rattle.outer.proofs.Progress.{Tiled, placed}
 use Rattle.outer.proofs.Shapes.{shape, tiled, few_products, few_columns_of}
+use Rattle.outer.proofs.Signed.{half_small, read_back, x32}
 use Rattle.outer.proofs.Elements.{valued_at, product_turned}
 
 -- a task's tile, of elements whose size is a constant of the walk over columns
@@ -28,6 +29,11 @@ module _ (t : Task) {E : ℕ} (e : t.o.element ≡ E) where
 pub product_in : (t : Task) {K from to c j : ℕ} → t.o.products ≡ K → SameUntil t.o.first (t.vb / t.o.element) from to → c < to → j < K
     → (j < 4) × (c < 64)
 product_in t e u a b = (omega (arith, few_products t), omega (arith, few_columns_of t, u.inside))
+
+-- a number of a source element, as an i32, by the constants
+pub small_as : (t : Task) {E K : ℕ} → (t.o.element ≡ E) × (t.o.products ≡ K) → (x : ℤ) → mag x ≤ 256 ^ (t.o.element / t.o.products)
+    → mag (x32 x) ≤ 256 ^ (E / K)
+small_as t e x h = rw (← e.0, ← e.1, read_back x (omega (arith, h, half_small (shape t.shaped).source))) h
 
 -- columns `from` to `to` of a row, for which the first source is one register
 module _ (t : Task) {row from to : ℕ} {xs ys : List ℤ} (u : SameUntil t.o.first (t.vb / t.o.element) from to)

@@ -7,10 +7,14 @@ use Rattle.outer.specs.Products.{dot, directed_product}
 use Rattle.outer.specs.Walks.{signed_at}
 use Rattle.outer.proofs.Progress.{lent, since_size, since_none, since_store, plus_lt, sum-start}
 use Rattle.outer.proofs.Shapes.{shape}
-use Rattle.outer.proofs.Parts.{of_size, tile_of, place_of, product_in, row_product, first_small, second_small}
+use Rattle.outer.proofs.Parts.{of_size, tile_of, place_of, product_in, row_product, first_small, second_small, small_as}
 use Rattle.outer.proofs.Signed.{half_small, long_back}
 use Rattle.outer.proofs.Elements.{sum_more}
 use Rattle.outer.proofs.task.Task.add_columns.Goals as goal
+
+pub overflow_mul-start-2 : goal.overflow_mul-start-2
+overflow_mul-start-2 g c =
+    omega (arith, place_of c.args.self.now c.requires.shape.0 c.args.from c.requires.row_bound c.requires.same_until c.requires.same_until.more)
 
 pub loop-c-init : goal.loop-c-init
 loop-c-init g c =
@@ -52,6 +56,16 @@ offset_bounds-y-j g c = omega (arith, product_in c.args.self.now c.requires.shap
 
 pub bounds-y-j : goal.bounds-y-j
 bounds-y-j g c = omega (arith, product_in c.args.self.now c.requires.shape.1 c.requires.same_until c.loop-c-test.true c.loop-j-test.true, c.requires.planes.long)
+
+pub multiply-requires-clause-x_bound : goal.multiply-requires-clause-x_bound
+multiply-requires-clause-x_bound g c =
+    let t = c.args.self.now in
+    let q = c.requires in
+    let b : c.loop-j.j < t.o.products = rw q.shape.1 c.loop-j-test.true in
+    (
+      small_as t q.shape (signed_at c.args.x.now (2 * c.loop-j.j)) (first_small t q.same_until q.fetched q.planes c.loop-c.auto.c c.loop-c-test.true b),
+      small_as t q.shape (signed_at c.args.y.now (64 * c.loop-j.j + c.loop-c.c)) (second_small t q.same_until q.fetched q.planes c.loop-c.auto.c c.loop-c-test.true b),
+    )
 
 pub add_signed-sum-requires-clause-four_or_eight : goal.add_signed-sum-requires-clause-four_or_eight
 add_signed-sum-requires-clause-four_or_eight g c = of_size c.args.self.now c.requires.shape.0

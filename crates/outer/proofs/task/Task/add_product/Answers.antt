@@ -4,6 +4,12 @@ use Rattle.outer.proofs.Shapes.{shape, element_in, spot_in}
 use Rattle.outer.proofs.Elements.{valued_off, valued_on, valued_back, valued_as, valued_at, first_off, second_off, counted}
 use Rattle.outer.proofs.task.Task.add_product.Goals as goal
 
+pub overflow_mul-first_byte : goal.overflow_mul-first_byte
+overflow_mul-first_byte c = omega (arith, element_in c.args.self.now c.source_bytes-b.ensures.is c.requires.row_bound.0 c.requires.row_bound.2)
+
+pub overflow_add-first_byte : goal.overflow_add-first_byte
+overflow_add-first_byte c = omega (arith, element_in c.args.self.now c.source_bytes-b.ensures.is c.requires.row_bound.0 c.requires.row_bound.2)
+
 pub overflow_mul-first_byte-2 : goal.overflow_mul-first_byte-2
 overflow_mul-first_byte-2 c = omega (arith, element_in c.args.self.now c.source_bytes-b.ensures.is c.requires.row_bound.0 c.requires.row_bound.2)
 

@@ -1,10 +1,13 @@
 -- `outer::task::Task::fetch` meets its contract: after j turns x holds j elements. Assumes nothing.
 use Rattle.std.proofs.Common.{◌≡◌, ◌+◌, ◌*◌, arith}
 use Rattle.outer.specs.Walks.{ValuedIn}
-use Rattle.outer.proofs.Shapes.{shape, few_products}
+use Rattle.outer.proofs.Shapes.{shape, few_products, number_lt}
 use Rattle.outer.proofs.Elements.{valued_back}
 use Rattle.outer.proofs.Arrays.{written}
 use Rattle.outer.proofs.task.Task.fetch.Goals as goal
+
+pub overflow_mul-k : goal.overflow_mul-k
+overflow_mul-k c = omega (arith, number_lt c.args.self.now c.args.row c.loop-j.j c.requires.register_bound.1 c.loop-j-test.true)
 
 pub loop-j-preserved : goal.loop-j-preserved
 loop-j-preserved c = λ i h.

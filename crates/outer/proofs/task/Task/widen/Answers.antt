@@ -8,10 +8,20 @@ use Rattle.outer.proofs.task.Task.widen.Invariants.{Is}
 use Rattle.outer.proofs.task.Task.widen.Goals.{then-self, else-self}
 use Rattle.outer.proofs.task.Task.widen.Goals as goal
 
+pub overflow_mul-k : goal.overflow_mul-k
+overflow_mul-k c = omega (arith, number_lt c.args.self.now c.loop-c.c c.loop-j.j (rw c.columns-c-end.ensures at c.loop-c-test.true) c.loop-j-test.true)
+
 pub overflow_add-k : goal.overflow_add-k
-overflow_add-k c =
-    let t = c.args.self.now in
-    omega (arith, number_lt t c.loop-c.c c.loop-j.j (omega (arith, c.loop-c-test.true, c.columns-c-end.ensures)) c.loop-j-test.true)
+overflow_add-k c = omega (arith, number_lt c.args.self.now c.loop-c.c c.loop-j.j (rw c.columns-c-end.ensures at c.loop-c-test.true) c.loop-j-test.true)
+
+pub overflow_add-j : goal.overflow_add-j
+overflow_add-j c = omega (arith, few_products c.args.self.now, few_columns_of c.args.self.now, c.columns-c-end.ensures)
+
+pub offset_bounds-y-j : goal.offset_bounds-y-j
+offset_bounds-y-j c = omega (arith, few_products c.args.self.now, few_columns_of c.args.self.now, c.columns-c-end.ensures)
+
+pub bounds-y-j : goal.bounds-y-j
+bounds-y-j c = omega (arith, few_products c.args.self.now, few_columns_of c.args.self.now, c.columns-c-end.ensures, c.loop-j.auto.y, c.requires.register_bound.1)
 
 pub loop-j-preserved : goal.loop-j-preserved
 loop-j-preserved c = λ n k f.
