@@ -1,6 +1,6 @@
 -- The fast walk's two arrays, filled place by place. Assumes nothing.
 use Rattle.std.proofs.Common.{◌≡◌, ℕ, ◌+◌, ◌*◌, ◌/◌, ◌%◌, ◌<◌, ◌≢◌, ◌⊎◌, List, length, set, ℤ, pos, inl, inr, arith, get_or-set_other, get_or-set_same}
-use native.Mathlib.Decide.{ℕ_discrete, dec_lt}
+use native.Mathlib.Decide.{ℕ_discrete}
 use Rattle.outer.specs.Walks.{signed_at}
 
 -- x is written at i: a place n has what it should if x is that, where n is i, and it was there before, where it is not
@@ -17,21 +17,9 @@ written Is xs i n x h f g = go (ℕ_discrete n i)
 abbrev pub Filled : ℕ → ℕ → ℕ → Type 0
 Filled c j n = (n % 64 < c) ⊎ ((n % 64 ≡ c) × (n / 64 < j))
 
-pub filled_none : (n : ℕ) → Filled 0 0 n → ⊥
-filled_none n (inl a) = omega arith
-filled_none n (inr a) = omega arith
-
 pub filled-before : {c j : ℕ} (n : ℕ) → Filled c (j + 1) n → n ≢ 64 * j + c → Filled c j n
 filled-before n (inl a) d = inl a
 filled-before n (inr a) d = inr (a.0, omega arith)
-
-pub filled_column : {K c : ℕ} (n : ℕ) → n / 64 < K → Filled (c + 1) 0 n → Filled c K n
-filled_column {K} {c} n l f = go f (dec_lt (n % 64) c)
-  where
-    go : Filled (c + 1) 0 n → Dec (n % 64 < c) → Filled c K n
-    go f (yes a) = inl a
-    go (inl f) (no a) = inr (omega arith, l)
-    go (inr f) (no a) = absurd (omega arith)
 
 pub plane_column : {c : ℕ} (j : ℕ) → c < 64 → (64 * j + c) % 64 ≡ c
 plane_column j h = omega arith

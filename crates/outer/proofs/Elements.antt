@@ -10,7 +10,7 @@ use Rattle.outer.specs.declared.Predication.TheVariants.{Unpredicated, By}
 use Rattle.outer.specs.declared.Operand.{Operand}
 use Rattle.outer.specs.declared.OuterProduct.{OuterProduct}
 use Rattle.outer.specs.Products.{interpret, register_at, active, product, sum, directed, directed_product}
-use Rattle.outer.specs.Walks.{ByteOrHalf, value_of, Valued, ValuedIn, Turned, signed_at, plane_product}
+use Rattle.outer.specs.Walks.{ByteOrHalf, value_of, Valued, ValuedIn, Turned}
 use Rattle.outer.proofs.Progress.{sum_turn}
 use Rattle.outer.proofs.Signed.{half_small, read_back, x32, mag_neg, negation_is, *ℤ-directed}
 
@@ -114,11 +114,9 @@ module _ (E K vb : ℕ) (o : OuterProduct) (z p : List ℕ) (row col k : ℕ) wh
   pub second_off : (sum : ℕ) → sum < 256 ^ E → SecondIs (pos 0) → Makes sum sum
   second_off sum l v = skipped sum l (sym product_is ∙ ap (λ (d : ℤ). x₀ *ℤ d) (sym v.value) ∙ *ℤ-zero x₀)
 
--- ---- one more product of a column, of numbers read back from the two arrays
-pub plane_turn : {N : ℕ} (E s₀ s r : ℕ) (m : ℤ) (xs ys : List ℤ) (c j : ℕ) → N ≤ 65536 → mag (signed_at xs (2 * j)) ≤ N → mag (signed_at ys (64 * j + c)) ≤ N
-    → s ≡ plus E s₀ (sum (plane_product xs ys c) j) → m ≡ x32 (signed_at xs (2 * j)) *ℤ x32 (signed_at ys (64 * j + c)) → r ≡ plus E s m
-    → r ≡ plus E s₀ (sum (plane_product xs ys c) (j + 1))
-unfolding plane_product
-plane_turn E s₀ s r m xs ys c j l h k e f q =
-    let p = f ∙ ap₂ ◌*ℤ◌ (read_back (signed_at xs (2 * j)) (omega arith)) (read_back (signed_at ys (64 * j + c)) (omega arith)) in
-    sum_turn E s₀ s r j (plane_product xs ys c) e (q ∙ ap (plus E s) p)
+-- ---- one more product of an element, of numbers read back from the two arrays
+pub sum_more : {N : ℕ} (E s₀ s r j : ℕ) (m x y : ℤ) (f : ℕ → ℤ) → N ≤ 65536 → mag x ≤ N → mag y ≤ N → s ≡ plus E s₀ (sum f j)
+    → m ≡ x32 x *ℤ x32 y → x *ℤ y ≡ f j → r ≡ plus E s m → r ≡ plus E s₀ (sum f (j + 1))
+sum_more E s₀ s r j m x y f l h k e p q d =
+    let m_is = p ∙ ap₂ ◌*ℤ◌ (read_back x (omega arith)) (read_back y (omega arith)) ∙ q in
+    sum_turn E s₀ s r j f e (d ∙ ap (plus E s) m_is)

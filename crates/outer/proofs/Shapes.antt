@@ -1,15 +1,15 @@
 -- What a shape gives: elements of its size fill a row, its products fill an element, and source elements lie in their
 -- registers. Assumes nothing.
-use Rattle.std.proofs.Common.{◌≡◌, ℕ, suc, ◌+◌, ◌-◌, ◌*◌, ◌/◌, ◌^◌, ◌<◌, ◌≤◌, Bool, true, false, cond, ltb, List, ℤ, sym, refl, le_refl, mul-le-mul_right, mul-le-mul_left, le-div_iff_mul-le, arith, lit<, lit≤, le-ltb, lt-ltb, eq-eqb, ne_eqb}
+use Rattle.std.proofs.Common.{◌≡◌, ℕ, suc, ◌+◌, ◌-◌, ◌*◌, ◌/◌, ◌^◌, ◌<◌, ◌≤◌, Bool, true, false, cond, ltb, List, ℤ, refl, mul-le-mul_right, mul-le-mul_left, le-div_iff_mul-le, arith, lit<, lit≤}
 use native.Mathlib.Nat.{div_self}
-use native.Mathlib.Decide.{ℕ_discrete, dec_lt}
 use Rattle.storage.specs.Modulo.{plus}
 use Rattle.storage.specs.Sizes.{legal}
 use Rattle.storage.proofs.Sizes.{Length, legal-length}
 use Rattle.outer.specs.declared.Operand.{Operand}
 use Rattle.outer.specs.declared.OuterProduct.{OuterProduct}
+use Rattle.outer.specs.declared.task.Task.{Task}
 use Rattle.outer.specs.Products.{register_at, Shaped, bytes32, halves64, halves32, GoodOperand, Ready}
-use Rattle.outer.specs.Walks.{FourOrEight, four, eight, ByteOrHalf, byte, half, Sources, same_until, SameUntil}
+use Rattle.outer.specs.Walks.{FourOrEight, four, eight, ByteOrHalf, byte, half}
 use Rattle.outer.proofs.Progress.{Tiled}
 
 -- ---- sizes
@@ -68,9 +68,6 @@ of_neither bytes32 d t = (refl, refl)
 of_neither halves64 d t = absurd (d refl)
 of_neither halves32 d t = absurd (t refl)
 
-pub shaped_as : {E K F L : ℕ} → (E ≡ F) × (K ≡ L) → Shaped E K → Shaped F L
-shaped_as e h = rw (e.0, e.1) at h
-
 pub tiled : {E K : ℕ} → Shaped E K → {vb tile : ℕ} → legal vb ≡ true → tile < E → Tiled E vb tile
 tiled sh {vb} {tile} l h = go (shape sh).element (legal-length vb l) h
   where
@@ -89,14 +86,6 @@ register_lt o n i g = go (ltb i (n / 2))
     go : (b : Bool) → cond b o.low.0 o.high.0 < 32
     go true = g.low
     go false = g.high
-
--- a register that was looked up, of as many rows or columns as there are
-pub looked_up : {n m r : ℕ} (o : Operand) (i : ℕ) → GoodOperand o → n ≡ m → r ≡ register_at o n i → (r ≡ register_at o m i) × (r < 32)
-looked_up {n} o i g e q = rw (q, ← e) (refl, register_lt o n i g)
-
-sources : {E vb : ℕ} {o : OuterProduct} {s : Operand} {z p : List ℕ} {register : ℕ} → Ready E vb o z p → GoodOperand s → register < 32
-    → Sources vb s register z p
-sources r g h = record { length_legal = r.length_legal; z_sized = r.z_sized; p_sized = r.p_sized; predication = g.predication; register_in = h }
 
 -- element i, of B bytes, of a register
 pub record Spot (vb register i B : ℕ) : Type 0 where
@@ -148,32 +137,27 @@ numbered {E} {K} sh {vb} {c} {j} l h k =
       wide = b;
     }
 
--- what reading it asks
-pub element_asks : {vb : ℕ} {o : OuterProduct} {z p : List ℕ} {s : Operand} {register b c j : ℕ} → Shaped o.element o.products
-    → Ready o.element vb o z p → GoodOperand s → register < 32 → b ≡ o.element / o.products → c < vb / o.element → j < o.products
-    → ByteOrHalf b × (Sources vb s register z p × ((o.products * c + j) * b + b ≤ vb))
-element_asks sh r g h e k l = rw e ((shape sh).source, (sources r g h, (numbered sh r.length_legal k l).inside))
+-- of a task
+pub few_products : (t : Task) → t.o.products ≤ 4
+few_products t = (shape t.shaped).few
 
--- ---- where an operand's register changes
-same_until_lem : (o : Operand) (n from : ℕ) → from < n → SameUntil o n from (same_until o n from)
-same_until_lem o n from h = go (ℕ_discrete o.low.0 o.high.0) (dec_lt from (n / 2))
-  where
-    alike : o.low.0 ≡ o.high.0 → (s t : Bool) → cond s o.low.0 o.high.0 ≡ cond t o.low.0 o.high.0
-    alike e true true = refl
-    alike e true false = e
-    alike e false true = sym e
-    alike e false false = refl
+pub few_columns_of : (t : Task) → t.vb / t.o.element ≤ 64
+few_columns_of t = few_columns (shape t.shaped).element t.vb (legal-length t.vb t.ready.length_legal)
 
-    go : Dec (o.low.0 ≡ o.high.0) → Dec (from < n / 2) → SameUntil o n from (same_until o n from)
-    go (yes e) l =
-        rw (eq-eqb o.low.0 o.high.0 e)
-        (record { more = h; inside = le_refl n; same = λ i a b. alike e (ltb i (n / 2)) (ltb from (n / 2)) })
-    go (no d) (yes l) =
-        rw (ne_eqb o.low.0 o.high.0 d, lt-ltb from (n / 2) l)
-        (record { more = l; inside = omega arith; same = λ i a b. rw (lt-ltb i (n / 2) b, lt-ltb from (n / 2) l) })
-    go (no d) (no l) =
-        rw (ne_eqb o.low.0 o.high.0 d, le-ltb from (n / 2) (omega arith))
-        (record { more = h; inside = le_refl n; same = λ i a b. rw (le-ltb i (n / 2) (omega arith), le-ltb from (n / 2) (omega arith)) })
+pub element_inside : (t : Task) (c j : ℕ) → c < t.vb / t.o.element → j < t.o.products
+    → (t.o.products * c + j) * (t.o.element / t.o.products) + t.o.element / t.o.products ≤ t.vb
+element_inside t c j h k = (numbered t.shaped t.ready.length_legal h k).inside
 
-pub one_register : {o : Operand} {n m from to : ℕ} → n ≡ m → from < n → to ≡ same_until o n from → SameUntil o m from to
-one_register {o} {n} {m} {from} e h q = rw (q, ← e) (same_until_lem o n from h)
+pub number_lt : (t : Task) (c j : ℕ) → c < t.vb / t.o.element → j < t.o.products → t.o.products * c + j < 256
+number_lt t c j h k =
+    let n = numbered t.shaped t.ready.length_legal h k in
+    omega arith
+
+-- whose source elements have B bytes
+module _ (t : Task) {B : ℕ} (e : B ≡ t.o.element / t.o.products) where
+  pub element_in : {c j : ℕ} → c < t.vb / t.o.element → j < t.o.products
+      → ((t.o.products * c + j) * B + B ≤ t.vb) × (t.o.products * c + j < t.vb) × (t.vb ≤ 256) × (0 < B)
+  element_in h k = let n = numbered t.shaped t.ready.length_legal h k in rw e (n.inside, n.number, n.small, n.wide)
+
+  pub spot_in : {register i : ℕ} → register < 32 → i * B + B ≤ t.vb → Spot t.vb register i B
+  spot_in h i = spot t.ready.length_legal h (rw e (shape t.shaped).source) i

@@ -1,74 +1,25 @@
 -- Signed machine arithmetic. A signed local holds bits, so its value x is read back as `to_z w (of_z w x)`. Assumes nothing.
-use Rattle.std.proofs.Common.{◌≡◌, ℕ, zero, suc, ◌+◌, ◌-◌, ◌*◌, ◌/◌, ◌%◌, ◌^◌, ◌<◌, ◌≤◌, Bool, true, false, T, ℤ, pos, negsuc, ◌-ℤ◌, ◌*ℤ◌, neg_ℤ, nat_abs, sym, refl, ap, ◌∙◌, subst, zero-le, le_trans, not-suc-le-zero, mul-le-mul, arith, lit≤, to_z-of_z, w32, w64, Fits, SFits, to_z, of_z, ltb-true, le-ltb, lt-ltb}
+use Rattle.std.proofs.Common.{◌≡◌, ℕ, zero, suc, ◌+◌, ◌*◌, ◌%◌, ◌^◌, ◌<◌, ◌≤◌, Bool, true, false, ℤ, pos, negsuc, ◌-ℤ◌, ◌*ℤ◌, neg_ℤ, sym, refl, ap, ◌∙◌, zero-le, le_trans, mul-le-mul, arith, lit≤, to_z-of_z, w32, w64, SFits, to_z, of_z}
 use native.Mathlib.Nat.{add-mod-mod}
 use lib.IntN.{+ℤ_idl, +ℤ_invr, neg_ℤ-neg_ℤ, *ℤ-zero, *ℤ-negsuc}
-use lib.Signed.{mag, lt_z, non_neg}
+use lib.Signed.{mag}
 use mir.Syntax.{Width}
 use mir.Val.{hbits}
-use mir.Facts.{to_z_pos}
 use Rattle.storage.specs.Modulo.{mod_z, plus}
 use Rattle.storage.proofs.Modulo.{plus_nil, plus-plus}
-use Rattle.outer.specs.Products.{interpret, directed}
+use Rattle.outer.specs.Products.{directed}
 use Rattle.outer.specs.Walks.{ByteOrHalf, byte, half}
 
 -- ---- a number of B bytes, read as an i32
 
--- it fits
+-- it fits, unsigned
 pub half_small : {B : ℕ} → ByteOrHalf B → 256 ^ B ≤ 65536
 half_small byte = lit≤ tt
 half_small half = lit≤ tt
 
--- twice the half is the whole
-doubled : {B : ℕ} → ByteOrHalf B → 2 * (256 ^ B / 2) ≡ 256 ^ B
-doubled byte = refl
-doubled half = refl
-
-module _ {B n : ℕ} (u : ByteOrHalf B) (below : n < 256 ^ B) where
-  pub number_fits : SFits w32 (pos n)
-  number_fits = record { sfits = omega (arith, below, half_small u) }
-
-  reads : to_z w32 n ≡ pos n
-  reads = to_z_pos w32 (omega (arith, below, half_small u))
-
-  pub read_unsigned : {t : Bool} → t ≡ true → (to_z w32 n ≡ interpret B t n) × (mag (to_z w32 n) < 256 ^ B)
-  read_unsigned e = rw (e, reads) (refl, below)
-
-  pub read_low : {t : Bool} → t ≡ false → n < 256 ^ B / 2 → (to_z w32 n ≡ interpret B t n) × (mag (to_z w32 n) < 256 ^ B)
-  read_low e l = rw (e, reads, lt-ltb n (256 ^ B / 2) l) (refl, below)
-
-  module _ {h : ℕ} (e : h ≡ 256 ^ B / 2) where
-    pub half_fits : SFits w32 (pos h)
-    half_fits = record { sfits = omega (arith, half_small u) }
-
-    whole : pos 2 *ℤ to_z w32 h ≡ pos (256 ^ B)
-    whole = rw (to_z_pos w32 {n = h} (omega (arith, half_small u)), e) (ap pos (doubled u))
-
-    pub whole_fits : SFits w32 (pos 2 *ℤ to_z w32 h)
-    whole_fits = rw whole (record { sfits = omega (arith, half_small u) })
-
-    -- the upper half, less the power
-    high_is : to_z w32 n -ℤ to_z w32 (of_z w32 (pos 2 *ℤ to_z w32 h)) ≡ negsuc (256 ^ B - suc n)
-    high_is = rw (to_z-of_z whole_fits, whole, reads) (go (256 ^ B) below)
-      where
-        go : (N : ℕ) → n < N → pos n -ℤ pos N ≡ negsuc (N - suc n)
-        go zero l = absurd (not-suc-le-zero l)
-        go (suc m) l = rw (lt-ltb n (suc m) l)
-
-    pub high_fits : SFits w32 (to_z w32 n -ℤ to_z w32 (of_z w32 (pos 2 *ℤ to_z w32 h)))
-    high_fits = rw high_is (record { sfits = omega (arith, below, half_small u) })
-
-    abbrev high : ℤ
-    high = to_z w32 (of_z w32 (to_z w32 n -ℤ to_z w32 (of_z w32 (pos 2 *ℤ to_z w32 h))))
-
-    pub read_high : {t : Bool} → t ≡ false → h ≤ n → (high ≡ interpret B t n) × (mag high < 256 ^ B)
-    read_high f l = rw (to_z-of_z high_fits, high_is, f, le-ltb n (256 ^ B / 2) (omega (arith, e))) (refl, omega (arith, below))
-
 -- and read back
 pub read_back : (x : ℤ) → mag x ≤ 65536 → to_z w32 (of_z w32 x) ≡ x
 read_back x h = to_z-of_z {w = w32} (record { sfits = omega arith })
-
-pub back_small : {N : ℕ} (x : ℤ) → N ≤ 65536 → mag x ≤ N → mag (to_z w32 (of_z w32 x)) ≤ N
-back_small x l h = rw (read_back x (omega arith)) h
 
 -- ---- a product, as an i32 or, of factors cast, as an i64
 
@@ -134,7 +85,7 @@ pub *ℤ-directed : (t : Bool) (x y : ℤ) → x *ℤ directed t y ≡ directed 
     go (pos (suc n)) = *ℤ-negsuc x n
     go (negsuc n) = sym (ap neg_ℤ (*ℤ-negsuc x n) ∙ neg_ℤ-neg_ℤ (x *ℤ pos (suc n)))
 
--- ---- the sign's test, the negation and the casts that they allow
+-- ---- the negation
 
 pub mag_neg : (z : ℤ) → mag (neg_ℤ z) ≤ suc (mag z)
 mag_neg (pos n) = omega (arith, mag_neg_pos n)
@@ -150,36 +101,8 @@ module _ (w : Width) (z : ℤ) (room : suc (mag z) < 2 ^ hbits w) where
   pub negation_is : to_z w (of_z w (pos 0 -ℤ to_z w (of_z w z))) ≡ neg_ℤ z
   negation_is = to_z-of_z negation_fits ∙ rw (bits_back, +ℤ_idl)
 
--- a number below 0, or not: the cast that the test allows
-below_zero : (z : ℤ) → mag z < 0x400000000 → lt_z z (pos 0) ≡ true → T (non_neg (neg_ℤ z)) × Fits w64 (nat_abs (neg_ℤ z)) × (neg_ℤ (pos (nat_abs (neg_ℤ z))) ≡ z)
-below_zero (pos n) f e = let h : n < 0 = ltb-true n 0 e in absurd (not-suc-le-zero h)
-below_zero (negsuc n) f e = (tt, record { fits = omega arith }, refl)
-
-from_zero : (z : ℤ) → mag z < 0x400000000 → lt_z z (pos 0) ≡ false → T (non_neg z) × Fits w64 (nat_abs z) × (pos (nat_abs z) ≡ z)
-from_zero (pos n) f e = (tt, record { fits = omega arith }, refl)
-from_zero (negsuc n) f e = let q : true ≡ false = e in absurd (subst T q tt)
-
-module _ (z : ℤ) (small : mag z < 0x400000000) where
-  pub long_back : x64 z ≡ z
-  long_back = bits_back w64 z (omega (arith, small))
-
-  pub long_negation_fits : SFits w64 (pos 0 -ℤ x64 z)
-  long_negation_fits = negation_fits w64 z (omega (arith, small))
-
-  pub long_negation : x64 (pos 0 -ℤ x64 z) ≡ neg_ℤ z
-  long_negation = negation_is w64 z (omega (arith, small))
-
-  pub negation_cast : lt_z (x64 z) (pos 0) ≡ true → T (non_neg (x64 (pos 0 -ℤ x64 z))) × Fits w64 (nat_abs (x64 (pos 0 -ℤ x64 z)))
-  negation_cast e = let b = below_zero z small (rw long_back at e) in rw long_negation (b.0, b.1)
-
-  pub negation_back : lt_z (x64 z) (pos 0) ≡ true → neg_ℤ (pos (nat_abs (x64 (pos 0 -ℤ x64 z)))) ≡ z
-  negation_back e = rw long_negation (below_zero z small (rw long_back at e)).2
-
-  pub plain_cast : lt_z (x64 z) (pos 0) ≡ false → T (non_neg (x64 z)) × Fits w64 (nat_abs (x64 z))
-  plain_cast e = let b = from_zero z small (rw long_back at e) in rw long_back (b.0, b.1)
-
-  pub plain_back : lt_z (x64 z) (pos 0) ≡ false → pos (nat_abs (x64 z)) ≡ z
-  plain_back e = rw long_back (from_zero z small (rw long_back at e)).2
+pub long_back : (z : ℤ) → mag z < 0x400000000 → x64 z ≡ z
+long_back z small = bits_back w64 z (omega arith)
 
 -- ---- the wrapping sums and differences, of what is reduced first or not, as `plus`
 

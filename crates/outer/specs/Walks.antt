@@ -1,12 +1,14 @@
 -- The words of the walks' own contracts: sizes, what the fast walk's two arrays hold, and elements of a tile counted row by
 -- row. Over the size E of a tile element in bytes and the number K of products, or over an outer product, which has both.
-use Rattle.std.specs.Prelude.{◌≡◌, ℕ, ◌+◌, ◌*◌, ◌/◌, ◌^◌, ◌<◌, ◌≤◌, true, cond, ◌&&◌, List, length, ℤ, pos, ◌*ℤ◌, ◌==◌, nat_le, nat_lt, slice_index_or}
+use Rattle.std.specs.Prelude.{◌≡◌, refl, ℕ, ◌+◌, ◌*◌, ◌/◌, ◌^◌, ◌<◌, ◌≤◌, cond, ◌&&◌, List, length, ℤ, pos, ◌==◌, nat_le, nat_lt, slice_index_or}
 use Rattle.std.specs.Int.Signed.{mag}
-use Rattle.storage.specs.Sizes.{legal, z_size, p_size, za_size}
 use Rattle.storage.specs.Tile.{add_to}
 use Rattle.outer.specs.declared.Operand.{Operand}
 use Rattle.outer.specs.declared.OuterProduct.{OuterProduct}
-use Rattle.outer.specs.Products.{interpret, register_at, source_element, active, sum, directed, sums, GoodPredication}
+use Rattle.std.specs.Coded.{Unit-prop, le_prop}
+use Rattle.outer.specs.declared.Predication.{Predication}
+use Rattle.outer.specs.declared.Predication.TheVariants.{Unpredicated, By}
+use Rattle.outer.specs.Products.{Shaped, bytes32, halves64, halves32, interpret, register_at, source_element, active, directed, sums, GoodPredication}
 
 -- the bytes of a tile element, and of a source element
 pub data FourOrEight : ℕ → Type 0 where
@@ -18,14 +20,6 @@ pub data ByteOrHalf : ℕ → Type 0 where
   half : ByteOrHalf 2
 
 -- ---- source elements
-
--- where an operand's elements are read
-pub record Sources (vb : ℕ) (o : Operand) (register : ℕ) (z p : List ℕ) : Type 0 where
-  pub length_legal : legal vb ≡ true
-  pub z_sized : length z ≡ z_size vb
-  pub p_sized : length p ≡ p_size vb
-  pub predication : GoodPredication o.predication
-  pub register_in : register < 32
 
 -- element e, of B bytes, of an operand's register; 0 where it is not active
 unfoldable pub value_of : ℕ → ℕ → List ℕ → List ℕ → Operand → ℕ → ℕ → ℤ
@@ -68,13 +62,10 @@ between cols a b f r c = cond (nat_le a (r * cols + c) && nat_lt (r * cols + c) 
 abbrev pub AddedTo : ℕ → ℕ → ℕ → (ℕ → ℕ → ℤ) → ℕ → ℕ → List ℕ → List ℕ → Type 0
 AddedTo E vb tile f a b before after = after ≡ add_to E vb tile (between (vb / E) a b f) before
 
--- it is added to columns `from` to `to` of a row
-abbrev pub AddedIn : ℕ → ℕ → ℕ → (ℕ → ℕ → ℤ) → ℕ → ℕ → ℕ → List ℕ → List ℕ → Type 0
-AddedIn E vb tile f row from to before after = AddedTo E vb tile f (row * (vb / E) + from) (row * (vb / E) + to) before after
-
--- what an outer product brings is
+-- what an outer product brings is added to columns `from` to `to` of a row
 abbrev pub Added : ℕ → OuterProduct → List ℕ → List ℕ → ℕ → ℕ → ℕ → List ℕ → List ℕ → Type 0
-Added vb o z p row from to before after = AddedIn o.element vb o.tile.0 (sums vb o z p) row from to before after
+Added vb o z p row from to before after =
+    let cols = vb / o.element in AddedTo o.element vb o.tile.0 (sums vb o z p) (row * cols + from) (row * cols + to) before after
 
 -- the row or column, of n, up to which an operand's register is the one that it has at `from`
 abbrev pub same_until : Operand → ℕ → ℕ → ℕ
@@ -86,23 +77,13 @@ pub record SameUntil (o : Operand) (n from to : ℕ) : Type 0 where
   pub inside : to ≤ n
   pub same : (i : ℕ) → from ≤ i → i < to → register_at o n i ≡ register_at o n from
 
--- ---- columns of a row, from the two arrays
+-- ---- of each, at most one proof
 
-unfoldable pub plane_product : List ℤ → List ℤ → ℕ → ℕ → ℤ
-plane_product xs ys c j = signed_at xs (2 * j) *ℤ signed_at ys (64 * j + c)
+pub Shaped-prop : {E K : ℕ} → IsProp (Shaped E K)
+Shaped-prop bytes32 bytes32 = refl
+Shaped-prop halves64 halves64 = refl
+Shaped-prop halves32 halves32 = refl
 
-unfoldable pub plane_dot : ℕ → List ℤ → List ℤ → ℕ → ℕ → ℤ
-plane_dot K xs ys row c = sum (plane_product xs ys c) K
-
--- columns `from` to `to` of a row of a tile, and what they are made from
-pub record Part (E K vb tile row from to : ℕ) (xs ys : List ℤ) (za : List ℕ) : Type 0 where
-  pub length_legal : legal vb ≡ true
-  pub za_sized : length za ≡ za_size vb
-  pub tile_in : tile < E
-  pub row_in : row < vb / E
-  pub order : from ≤ to
-  pub to_in : to ≤ vb / E
-  pub xs_long : length xs ≡ 8
-  pub ys_long : length ys ≡ 256
-  pub xs_small : (j : ℕ) → j < K → mag (signed_at xs (2 * j)) ≤ 256 ^ (E / K)
-  pub ys_small : (c j : ℕ) → c < vb / E → j < K → mag (signed_at ys (64 * j + c)) ≤ 256 ^ (E / K)
+pub GoodPredication-prop : (p : Predication) → IsProp (GoodPredication p)
+GoodPredication-prop Unpredicated = Unit-prop
+GoodPredication-prop (By q) = le_prop

@@ -24,7 +24,5 @@ fn clear_row(vb: usize, mask: u8, row: usize, za: &mut [u8])
         return;
     }
     let start = row * vb;
-    for i in 0..vb {
-        za[start + i] = 0;
-    }
+    za[start..start + vb].fill(0);
 }

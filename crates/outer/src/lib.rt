@@ -5,6 +5,7 @@ mod clear;
 mod plain;
 mod product;
 mod source;
+mod task;
 mod walk;
 
 pub use clear::clear_tiles;

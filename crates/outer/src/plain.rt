@@ -9,7 +9,8 @@ ghost use Rattle.outer.specs.Products.{directed, directed_product, sums, Shaped,
 
 use crate::OuterProduct;
 use crate::product::{add_signed, load, multiply, store};
-use crate::source::{is_active, read, register_at};
+use crate::source::read;
+use crate::task::Task;
 
 // Adds an outer product to its tile, on vectors of vb bytes.
 pub fn update_plainly(vb: usize, o: OuterProduct, z: &[u8], p: &[u8], za: &mut [u8])
@@ -18,52 +19,44 @@ pub fn update_plainly(vb: usize, o: OuterProduct, z: &[u8], p: &[u8], za: &mut [
     requires za_len { length za.old ≡ za_size vb }
     ensures { za.new ≡ add_to o.element vb o.tile.0 (sums vb o z.now p.now) za.old }
 {
+    let task = Task { vb, o, z, p };
     let e = o.element;
     let tile = o.tile.0 as usize;
-    let dim = vb / e;
+    let dim = task.columns();
     for row in 0..dim {
         for col in 0..dim {
             let i = (row * e + tile) * vb + col * e;
             let mut sum = load(e, za, i);
             for k in 0..o.products {
-                sum = add_product(sum, vb, o, z, p, row, col, k);
+                sum = task.add_product(sum, row, col, k);
             }
             store(e, za, i, sum);
         }
     }
 }
 
-// Product k of element (row, col), added to sum.
-fn add_product(
-    sum: u64,
-    vb: usize,
-    o: OuterProduct,
-    z: &[u8],
-    p: &[u8],
-    row: usize,
-    col: usize,
-    k: usize,
-) -> u64
-    requires shaped { Shaped o.element o.products }
-    requires ready { Ready o.element vb o z.now p.now }
-    requires row_bound { (row < vb / o.element) × (col < vb / o.element) × (k < o.products) × (sum < 256 ^ o.element) }
-    ensures { result ≡ plus o.element sum (directed_product o.element o.products vb o z.now p.now row col k) }
-{
-    let dim = vb / o.element;
-    let b = o.element / o.products;
-    let first_byte = (o.products * row + k) * b;
-    let second_byte = (o.products * col + k) * b;
-    if !is_active(p, vb, o.first, first_byte) {
-        return sum;
+impl Task<'_> {
+    // Product k of element (row, col), added to sum.
+    fn add_product(&self, sum: u64, row: usize, col: usize, k: usize) -> u64
+        requires row_bound { (row < self.now.vb / self.now.o.element) × (col < self.now.vb / self.now.o.element) × (k < self.now.o.products) }
+        requires sum_bound { sum < 256 ^ self.now.o.element }
+        ensures { let t = self.now in result ≡ plus t.o.element sum (directed_product t.o.element t.o.products t.vb t.o t.z.now t.p.now row col k) }
+    {
+        let b = self.source_bytes();
+        let first_byte = (self.o.products * row + k) * b;
+        let second_byte = (self.o.products * col + k) * b;
+        if !self.is_active(self.o.first, first_byte) {
+            return sum;
+        }
+        if !self.is_active(self.o.second, second_byte) {
+            return sum;
+        }
+        let n = self.register_at(self.o.first, col);
+        let m = self.register_at(self.o.second, row);
+        let x = read(b, self.z, n * self.vb + first_byte, self.o.first.unsigned);
+        let y = read(b, self.z, m * self.vb + second_byte, self.o.second.unsigned);
+        accumulate(self.o.element, self.o.products, sum, x, y, self.o.subtract)
     }
-    if !is_active(p, vb, o.second, second_byte) {
-        return sum;
-    }
-    let n = register_at(o.first, dim, col);
-    let m = register_at(o.second, dim, row);
-    let x = read(b, z, n * vb + first_byte, o.first.unsigned);
-    let y = read(b, z, m * vb + second_byte, o.second.unsigned);
-    accumulate(o.element, o.products, sum, x, y, o.subtract)
 }
 
 // A product, negated where the instruction subtracts, added to sum.

@@ -63,9 +63,9 @@ fn add(e: usize, sum: u64, n: u64) -> u64
     ensures { result ≡ plus e sum (pos n) }
 {
     if e == 8 {
-        return std::num::wrapping_add_u64(sum, n);
+        return sum.wrapping_add(n);
     }
-    std::num::wrapping_add_u32(sum as u32, (n % 0x1_0000_0000) as u32) as u64
+    (sum as u32).wrapping_add((n % 0x1_0000_0000) as u32) as u64
 }
 
 fn take(e: usize, sum: u64, n: u64) -> u64
@@ -74,7 +74,7 @@ fn take(e: usize, sum: u64, n: u64) -> u64
     ensures { result ≡ plus e sum (neg_ℤ (pos n)) }
 {
     if e == 8 {
-        return std::num::wrapping_sub_u64(sum, n);
+        return sum.wrapping_sub(n);
     }
-    std::num::wrapping_sub_u32(sum as u32, (n % 0x1_0000_0000) as u32) as u64
+    (sum as u32).wrapping_sub((n % 0x1_0000_0000) as u32) as u64
 }

@@ -1,54 +1,73 @@
 // Source elements: which register has them, whether they count, and what numbers they are.
-ghost use Rattle.std.specs.Prelude.{◌≡◌, ◌+◌, ◌*◌, ◌^◌, ◌<◌, ◌≤◌, true, length};
+ghost use Rattle.std.specs.Prelude.{◌≡◌, ◌+◌, ◌*◌, ◌/◌, ◌^◌, ◌<◌, ◌≤◌, length};
 ghost use Rattle.std.specs.Int.Signed.{mag};
 ghost use Rattle.storage.specs.Bytes.{at, word};
-ghost use Rattle.storage.specs.Sizes.{legal, p_size};
-ghost use Rattle.outer.specs.Products.{interpret, register_at, active, GoodPredication};
-ghost use Rattle.outer.specs.Walks.{ByteOrHalf, Sources, Valued};
+ghost use Rattle.outer.specs.Products.{interpret, register_at, active, GoodPredication, GoodOperand};
+ghost use Rattle.outer.specs.Walks.{ByteOrHalf, ValuedIn};
 
+use crate::task::Task;
 use crate::{Operand, Predication};
 
-// Element i, of b bytes, of an operand's register, as a whole number; 0 where it is not active.
-pub(crate) fn element(
-    b: usize,
-    vb: usize,
-    o: Operand,
-    register: usize,
-    z: &[u8],
-    p: &[u8],
-    i: usize,
-) -> i32
-    requires byte_or_half { ByteOrHalf b }
-    requires sources { Sources vb o register z.now p.now }
-    requires b_bound { i * b + b ≤ vb }
-    ensures { Valued b vb z.now p.now o register i result }
-{
-    let byte = i * b;
-    if !is_active(p, vb, o, byte) {
-        return 0;
-    }
-    read(b, z, register * vb + byte, o.unsigned)
-}
+impl Task<'_> {
+    // The columns of a tile, which has as many rows, and the bytes of a source element: tests are quicker than a division.
 
-// Whether an operand's element that starts at a vector byte is active.
-pub(crate) fn is_active(p: &[u8], vb: usize, o: Operand, byte: usize) -> bool
-    requires { (legal vb ≡ true) × (length p.now ≡ p_size vb) × GoodPredication o.predication × (byte < vb) }
-    ensures { result ≡ active 1 vb p.now o.predication byte }
-{
-    let predication = o.predication;
-    match predication {
-        Predication::Unpredicated => true,
-        Predication::By(q) => storage::bit(p, (q.0 as usize) * vb + byte),
+    pub(crate) fn columns(&self) -> usize
+        ensures { result ≡ self.now.vb / self.now.o.element }
+    {
+        if self.o.element == 8 {
+            return self.vb / 8;
+        }
+        self.vb / 4
     }
-}
 
-pub(crate) fn register_at(o: Operand, n: usize, i: usize) -> usize
-    ensures { result ≡ register_at o n i }
-{
-    if i < n / 2 {
-        o.low.0 as usize
-    } else {
-        o.high.0 as usize
+    pub(crate) fn source_bytes(&self) -> usize
+        ensures is { result ≡ self.now.o.element / self.now.o.products }
+        ensures byte_or_half { ByteOrHalf result }
+    {
+        if self.o.element == self.o.products {
+            return 1;
+        }
+        2
+    }
+
+    // The register that a source has for row or column i.
+    pub(crate) fn register_at(&self, source: Operand, i: usize) -> usize
+        requires { GoodOperand source }
+        ensures is { result ≡ register_at source (self.now.vb / self.now.o.element) i }
+        ensures bound { result < 32 }
+    {
+        if i < self.columns() / 2 {
+            source.low.0 as usize
+        } else {
+            source.high.0 as usize
+        }
+    }
+
+    // Element i of a source's register, as a whole number; 0 where it is not active.
+    pub(crate) fn element(&self, source: Operand, register: usize, i: usize) -> i32
+        requires source { GoodOperand source }
+        requires register_bound { register < 32 }
+        requires i_bound { i * (self.now.o.element / self.now.o.products) + self.now.o.element / self.now.o.products ≤ self.now.vb }
+        ensures { ValuedIn self.now.vb self.now.o self.now.z.now self.now.p.now source register i result }
+    {
+        let b = self.source_bytes();
+        let byte = i * b;
+        if !self.is_active(source, byte) {
+            return 0;
+        }
+        read(b, self.z, register * self.vb + byte, source.unsigned)
+    }
+
+    // Whether a source's element that starts at a vector byte is active.
+    pub(crate) fn is_active(&self, source: Operand, byte: usize) -> bool
+        requires predication { GoodPredication source.predication }
+        requires byte_bound { byte < self.now.vb }
+        ensures { result ≡ active 1 self.now.vb self.now.p.now source.predication byte }
+    {
+        match source.predication {
+            Predication::Unpredicated => true,
+            Predication::By(q) => storage::bit(self.p, (q.0 as usize) * self.vb + byte),
+        }
     }
 }
 

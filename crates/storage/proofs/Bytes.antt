@@ -9,6 +9,10 @@ use lib.Arith.{mod-mul}
 use lib.Dec.{lit<}
 use lib.ListN.{length, set, length-set}
 use lib.Seq.{sets, get_or-set_same, get_or-set_other}
+use borrow.Rule.Slice.PartMut.{put_mid}
+use Rattle.std.proofs.Common.{take, append_assoc, drop-drop}
+use Rattle.std.proofs.lemmas.List.Edits.{sets-eq}
+use Rattle.std.specs.Int.{sum_through, byte_worth, byte_at, bytes_low_first}
 use mathlib.Core.Logic.{◌≢◌, ◌⊎◌, inl, inr}
 use Rattle.storage.specs.Bytes.{Store, at, byte_of, word, bytes_of}
 use Rattle.storage.proofs.Modulo.{pow_pos}
@@ -102,22 +106,6 @@ at-sets_in (v ∷ vs) l p (suc k) h b =
     let e : p + suc k ≡ suc p + k = omega arith in
     rw e (at-sets_in vs (set l p v) (suc p) k (le_of_suc-le-suc h) (rw (length-set l p v) (rw e at b)))
 
--- ---- two and four bytes, as the code reads and stores them
-
-pub word_of_two : (m : Store) (i j r : ℕ) → r ≡ m i + 256 * (m j + 256 * 0) → j ≡ suc i → r ≡ word 2 m i
-unfolding word
-word_of_two m i j r e a = e ∙ rw a
-
-pub word_of_four : (m : Store) (i j k l r : ℕ) → r ≡ m i + 256 * (m j + 256 * (m k + 256 * (m l + 256 * 0)))
-    → j ≡ suc i → k ≡ suc (suc i) → l ≡ suc (suc (suc i)) → r ≡ word 4 m i
-unfolding word
-word_of_four m i j k l r e a b c = e ∙ rw (a, b, c)
-
-pub sets_of_four : (s : List ℕ) (i j k l v : ℕ) → j ≡ suc i → k ≡ suc (suc i) → l ≡ suc (suc (suc i))
-    → set (set (set (set s i (v % 256)) j (v / 256 % 256)) k (v / 256 / 256 % 256)) l (v / 256 / 256 / 256 % 256) ≡ sets s i (bytes_of 4 v)
-unfolding bytes_of
-sets_of_four s i j k l v a b c = rw (a, b, c)
-
 -- ---- longer numbers, in two parts
 
 pub word_append : (A B : ℕ) (m : ℕ → ℕ) (p : ℕ) → word (A + B) m p ≡ word A m p + 256 ^ A * word B m (p + A)
@@ -128,18 +116,43 @@ word_append (suc A) B m p =
     let r : suc p + A ≡ p + suc A = omega arith in
     q ∙ rw (word_append A B m (suc p), r, pow-suc 256 A) (omega arith)
 
-pub bytes_append : (A B v : ℕ) → bytes_of (A + B) v ≡ bytes_of A (v % 256 ^ A) ++ bytes_of B (v / 256 ^ A)
-unfolding bytes_of
-bytes_append zero B v = rw (zero-add B, div-one v)
-bytes_append (suc A) B v =
-    let x = v % 256 ^ suc A in
-    let e : x ≡ v % 256 + 256 * (v / 256 % 256 ^ A) = mod_suc A v in
-    let d : v / 256 ^ suc A ≡ v / 256 / 256 ^ A =
-    ap (λ (n : ℕ). v / n) (pow-suc 256 A ∙ mul_comm (256 ^ A) 256) ∙ sym (div-div-eq-div-mul v 256 (256 ^ A)) in
-    let h : x % 256 ≡ v % 256 = omega arith in
-    let t : x / 256 ≡ v / 256 % 256 ^ A = omega arith in
-    rw (suc-add A B, d, h, t, bytes_append A B (v / 256))
-
 pub sets_append : (xs ys l : List ℕ) (i : ℕ) → sets l i (xs ++ ys) ≡ sets (sets l i xs) (i + length xs) ys
 sets_append [] ys l i = rw (add-zero i)
 sets_append (x ∷ xs) ys l i = let e : i + suc (length xs) ≡ suc i + length xs = omega arith in rw e (sets_append xs ys (set l i x) (suc i))
+
+-- ---- the library's words for the same
+
+abbrev place : ℕ → ℕ → ℕ
+place p zero = p
+place p (suc k) = p + suc k
+
+word_one : (m : Store) (p : ℕ) → word 1 m p ≡ m p
+unfolding word
+word_one m p = omega arith
+
+pub word_through : (E : ℕ) (m : Store) (p : ℕ) → word (suc E) m p ≡ sum_through (λ k. byte_worth k (m (place p k))) E
+word_through zero m p = word_one m p
+word_through (suc E) m p =
+    let e : suc (suc E) ≡ suc E + 1 = omega arith in
+    rw e (word_append (suc E) 1 m p ∙ rw (word_through E m p, word_one m (p + suc E)) (omega arith))
+
+byte_at_is : (k v : ℕ) → byte_at k v ≡ v / 256 ^ k % 256
+byte_at_is zero v = rw (div-one v)
+byte_at_is (suc k) v = refl
+
+bytes_low_first_is : (k E v : ℕ) → bytes_low_first k E v ≡ bytes_of E (v / 256 ^ k)
+unfolding bytes_of
+bytes_low_first_is k zero v = refl
+bytes_low_first_is k (suc E) v =
+    let d : v / 256 ^ suc k ≡ v / 256 ^ k / 256 = ap (λ (n : ℕ). v / n) (pow-suc 256 k) ∙ sym (div-div-eq-div-mul v (256 ^ k) 256) in
+    rw (byte_at_is k v, bytes_low_first_is (suc k) E v, d)
+
+-- a part of s written over, as a run of stores
+pub part_put : (i k : ℕ) (s vs : List ℕ) → k ≡ length vs → i + k ≤ length s → put_mid i k s vs ≡ sets s i vs
+part_put i k s vs e h = rw (e, drop-drop) (sym (sets-eq vs s i (rw e at h) ∙ append_assoc (take i s) vs _))
+
+-- and by the E bytes of v
+pub part_stored : (E v i k : ℕ) (s bytes : List ℕ) → i + E ≤ length s → k ≡ E → bytes ≡ bytes_low_first 0 E v → put_mid i k s bytes ≡ sets s i (bytes_of E v)
+part_stored E v i k s bytes h e q =
+    let b : bytes ≡ bytes_of E v = q ∙ bytes_low_first_is 0 E v ∙ ap (bytes_of E) (div-one v) in
+    rw b (part_put i k s (bytes_of E v) (e ∙ sym (length_bytes_of E v)) (rw (sym e) at h))

@@ -1,8 +1,8 @@
 -- `storage::load_u16` meets its contract. Assumes nothing.
+use Rattle.std.proofs.Common.{arith}
 use Rattle.storage.specs.Bytes.{at}
-use Rattle.storage.proofs.Bytes.{word_of_two}
-use native.Mathlib.Omega.{arith}
+use Rattle.storage.proofs.Bytes.{word_through}
 use Rattle.storage.proofs.load_u16.Goals as goal
 
 pub returns : goal.returns
-returns c = let a = c.args in word_of_two (at a.s.now) a.i _ _ c.word16.ensures (omega arith)
+returns c = omega (arith, c.from_le_bytes.ensures, word_through 1 (at c.args.s.now) c.args.i)

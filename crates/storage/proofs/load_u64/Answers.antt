@@ -1,10 +1,8 @@
--- `storage::load_u64` meets its contract: two halves, the lower first. Assumes nothing.
-use Rattle.storage.proofs.Bytes.{word_append}
+-- `storage::load_u64` meets its contract. Assumes nothing.
+use Rattle.std.proofs.Common.{arith}
 use Rattle.storage.specs.Bytes.{at}
-use native.Mathlib.Omega.{arith}
+use Rattle.storage.proofs.Bytes.{word_through}
 use Rattle.storage.proofs.load_u64.Goals as goal
 
 pub returns : goal.returns
-returns c =
-    let a = c.args in
-    omega (arith, c.load_u32-low.ensures, c.load_u32-high.ensures, word_append 4 4 (at a.s.now) a.i)
+returns c = omega (arith, c.from_le_bytes.ensures, word_through 7 (at c.args.s.now) c.args.i)

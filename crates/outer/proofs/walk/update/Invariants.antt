@@ -1,6 +1,6 @@
 -- `outer::walk::update` meets its contract: the rows before `row` have their products added, and the planes have the second
 -- source's register that they are said to hold. Assumes nothing.
-use Rattle.std.proofs.Common.{◌≡◌, ◌-◌, ◌*◌, ◌/◌, ◌<◌, ◌≤◌, length}
+use Rattle.std.proofs.Common.{◌*◌, ◌/◌, IfSome}
 use Rattle.outer.specs.Products.{sums}
 use Rattle.outer.specs.Walks.{Planes}
 use Rattle.outer.proofs.Progress.{Since}
@@ -8,8 +8,5 @@ use Rattle.outer.proofs.walk.update.Given as goal
 
 abbrev pub invariant-loop-row : goal.invariant-loop-row
 invariant-loop-row l =
-    (l.row ≤ l.vb / l.o.element) × (length l.y ≡ 256) × (l.held < 32 → Planes l.vb l.o l.z l.p l.held l.y)
+    IfSome l.held (λ h. Planes l.vb l.o l.z l.p h l.y)
     × Since l.o.element l.vb l.o.tile.0 (sums l.vb l.o l.z l.p) 0 (l.row * (l.vb / l.o.element)) l.initial.za l.za
-
-abbrev pub decreases-loop-row : goal.decreases-loop-row
-decreases-loop-row l = l.vb / l.o.element - l.row
