@@ -138,7 +138,7 @@ fn text_agrees(w: u32, n: usize, room: &[u8], listed: &[u8]) -> bool {
 // Whether room has a listed text in its first n bytes, and the bytes after it as they were. The mark of an unlisted
 // word is no text.
 fn holds(room: &[u8], n: usize, listed: &[u8]) -> bool {
-    !marks_unlisted(listed) && n <= room.len() && room[..n] == *listed && untouched(&room[n..])
+    !marks_unlisted(listed) && n <= room.len() && &room[..n] == listed && untouched(&room[n..])
 }
 
 // Whether a room of n bytes gets the listed text too.
@@ -158,9 +158,7 @@ fn short_room_refused(w: u32, n: usize) -> bool {
     let mut room = [FILL; TEXT_ROOM];
     match print_into(w, n - 1, &mut room) {
         Printed::Length(_) => false,
-        Printed::Refused(refusal) => {
-            isa::number(refusal) == ROOM_TOO_SHORT && untouched(&room)
-        }
+        Printed::Refused(refusal) => { isa::number(refusal) == ROOM_TOO_SHORT && untouched(&room) }
     }
 }
 
@@ -215,7 +213,7 @@ fn untouched(bytes: &[u8]) -> bool {
 }
 
 fn marks_unlisted(listed: &[u8]) -> bool {
-    listed == b"-"
+    listed == b"-".as_slice()
 }
 
 // Whether a refusal is what is listed, and left room as it was; if not, a line shows both.
