@@ -3,9 +3,9 @@
 // stdin says what a line holds and how Z, P and ZA are made from its seed.
 #![tactic(auto)]
 
-ghost use Rattle.std.specs.Prelude.{◌≤◌, length};
+ghost use Rattle.std.specs.Prelude.{◌≤◌, length, IfSome};
 
-use checks::{Fill, Number, Outcome, STDIN_FILENO, STDOUT_FILENO, Tally};
+use checks::{Fill, Outcome, STDIN_FILENO, STDOUT_FILENO, Tally};
 use machine::Bench;
 
 const ALL_FEATURES: u32 = 15;
@@ -19,171 +19,101 @@ fn main() {
         io::write_all(STDOUT_FILENO, b"input too long\n");
         return;
     }
-    checks::report(b"lists: ", compare(&input[..n]));
+    compare(&input[..n]).report(b"lists: ");
 }
 
-// A last line with no line feed is malformed: the input may have been cut there.
 fn compare(input: &[u8]) -> Tally {
-    let mut t = Tally {
-        lines: 0,
-        agreed: 0,
-        malformed: 0,
-    };
-    let mut at = 0;
-    while at < input.len() {
-        let end = field_end(input, at, b'\n');
-        if end == input.len() {
-            return checks::counted(t, Outcome::Malformed);
-        }
-        t = checks::counted(t, line_outcome(&input[at..end]));
-        at = end + 1;
+    let mut t = Tally::default();
+    for line in input.split_inclusive(|&byte| byte == b'\n') {
+        t = t.counted(whole_line_outcome(line));
     }
     t
 }
 
-// Where the field that starts at `at` has the byte that ends it, within the text.
-fn field_end(text: &[u8], at: usize, last: u8) -> usize
-    requires { at ≤ length text.now }
-    ensures { (at ≤ result) × (result ≤ length text.now) }
-{
-    checks::field_end(text, at, last)
+// What comes of a line, which is lent with its line feed. A last line with none is malformed: the input may have been cut there.
+fn whole_line_outcome(line: &[u8]) -> Outcome {
+    match line.strip_suffix(b"\n") {
+        Some(line) => line_outcome(line),
+        None => Outcome::Malformed,
+    }
 }
 
 // What comes of a line, which is lent without its line feed; one that disagrees is shown.
 fn line_outcome(line: &[u8]) -> Outcome {
-    if line.len() == 0 {
+    if line.is_empty() {
         return Outcome::Malformed;
     }
     if line[0] == b'#' {
         return Outcome::Comment;
     }
-    let outcome = list_outcome(line);
-    if let Outcome::Disagreed = outcome {
-        io::write_all(STDOUT_FILENO, b"disagrees: ");
-        io::write_all(STDOUT_FILENO, line);
-        io::write_all(STDOUT_FILENO, b"\n");
+    match list_agrees(line) {
+        Some(true) => Outcome::Agreed,
+        Some(false) => {
+            io::write_all(STDOUT_FILENO, b"disagrees: ");
+            io::write_all(STDOUT_FILENO, line);
+            io::write_all(STDOUT_FILENO, b"\n");
+            Outcome::Disagreed
+        }
+        None => Outcome::Malformed,
     }
-    outcome
 }
 
-// What comes of a line with a list: five fields with a space between.
-fn list_outcome(line: &[u8]) -> Outcome {
-    let vb = field_end(line, 0, b' ');
-    if vb == line.len() {
-        return Outcome::Malformed;
-    }
-    let seed = field_end(line, vb + 1, b' ');
-    if seed == line.len() {
-        return Outcome::Malformed;
-    }
-    let fill = field_end(line, seed + 1, b' ');
-    if fill == line.len() {
-        return Outcome::Malformed;
-    }
-    let words = field_end(line, fill + 1, b' ');
-    if words == line.len() {
-        return Outcome::Malformed;
-    }
-    let checksum = &line[words + 1..];
-    fields_outcome(
-        &line[..vb],
-        &line[vb + 1..seed],
-        &line[seed + 1..fill],
-        &line[fill + 1..words],
-        checksum,
-    )
-}
-
-fn fields_outcome(vb: &[u8], seed: &[u8], fill: &[u8], words: &[u8], checksum: &[u8]) -> Outcome {
-    let Number::Value(vb) = decimal_of(vb) else {
-        return Outcome::Malformed;
-    };
-    let Number::Value(seed) = decimal_of(seed) else {
-        return Outcome::Malformed;
-    };
-    let Number::Value(fill) = decimal_of(fill) else {
-        return Outcome::Malformed;
-    };
-    let Number::Value(checksum) = decimal_of(checksum) else {
-        return Outcome::Malformed;
-    };
+// Whether the list of a line agrees, if the line has one: five fields with a space between.
+fn list_agrees(line: &[u8]) -> Option<bool> {
+    let mut fields = line.splitn(5, |&byte| byte == b' ');
+    let vb = decimal_of(fields.next()?)?;
+    let seed = decimal_of(fields.next()?)?;
+    let fill = fill_of(decimal_of(fields.next()?)?)?;
+    let words = fields.next()?;
+    let checksum = decimal_of(fields.next()?)?;
     if LONGEST_VB < vb {
-        return Outcome::Malformed;
+        return None;
     }
-    let fill = match fill {
-        0 => Fill::Any,
-        1 => Fill::Edges,
-        _ => return Outcome::Malformed,
-    };
-    let mut room = [0u32; machine::MOST_WORDS];
-    words_outcome(vb as usize, seed, fill, words, &mut room, checksum)
+    words_agree(vb as usize, seed, fill, words, checksum)
 }
 
-fn words_outcome(
-    vb: usize,
-    seed: u32,
-    fill: Fill,
-    text: &[u8],
-    room: &mut [u32],
-    checksum: u32,
-) -> Outcome
+fn fill_of(number: u32) -> Option<Fill> {
+    match number {
+        0 => Some(Fill::Any),
+        1 => Some(Fill::Edges),
+        _ => None,
+    }
+}
+
+fn words_agree(vb: usize, seed: u32, fill: Fill, text: &[u8], checksum: u32) -> Option<bool>
     requires { vb ≤ 256 }
 {
-    let n = read_words(text, room);
-    if n == 0 {
-        return Outcome::Malformed;
-    }
-    if agrees(vb, seed, fill, &room[..n], checksum) {
-        Outcome::Agreed
-    } else {
-        Outcome::Disagreed
-    }
+    let mut room = [0u32; machine::MOST_WORDS];
+    let n = read_words(text, &mut room)?;
+    Some(agrees(vb, seed, fill, &room[..n], checksum))
 }
 
-// Reads words of eight digits with a comma between, and answers how many, or 0 if one is malformed or has no room.
-fn read_words(text: &[u8], room: &mut [u32]) -> usize
-    ensures { result ≤ length room.new }
+// Reads words of eight digits with a comma between, and answers how many, if none is malformed and all have room.
+fn read_words(text: &[u8], room: &mut [u32]) -> Option<usize>
+    ensures { IfSome result (λ n. n ≤ length room.new) }
 {
     let mut n = 0;
-    let mut at = 0;
-    while n < room.len() {
-        let end = field_end(text, at, b',');
-        if end - at != 8 {
-            return 0;
+    for word in text.split(|&byte| byte == b',') {
+        if word.len() != 8 {
+            return None;
         }
-        let Number::Value(word) = checks::hexadecimal_of(&text[at..end]) else {
-            return 0;
-        };
-        room[n] = word;
+        *room.get_mut(n)? = checks::hexadecimal_of(word)?;
         n += 1;
-        if end == text.len() {
-            return n;
-        }
-        at = end + 1;
     }
-    0
+    Some(n)
 }
 
 // The number that decimal digits give, if there are any and it is below 2^32.
-fn decimal_of(text: &[u8]) -> Number {
-    if text.len() == 0 {
-        return Number::Malformed;
+fn decimal_of(text: &[u8]) -> Option<u32> {
+    if text.is_empty() {
+        return None;
     }
     let mut n: u32 = 0;
-    let mut i = 0;
-    while i < text.len() {
-        let digit = checks::digit_of(text[i]);
-        if 9 < digit {
-            return Number::Malformed;
-        }
-        let more = n as u64 * 10 + digit as u64;
-        if 0xffff_ffff < more {
-            return Number::Malformed;
-        }
-        n = more as u32;
-        i += 1;
+    for &byte in text {
+        let digit = char::from(byte).to_digit(10)?;
+        n = n.checked_mul(10)?.checked_add(digit)?;
     }
-    Number::Value(n)
+    Some(n)
 }
 
 // Whether the list agrees; here the bench and the room for Z, P and ZA are made.
@@ -226,31 +156,24 @@ fn leaves(
     let after_z = checks::generate(seed, fill, z);
     let after_p = checks::generate(after_z, fill, p);
     checks::generate(after_p, fill, za);
-    if !executes(bench, z, p, za, words) {
-        return false;
-    }
-    checksum_of(za) == checksum as u64
+    executes(bench, z, p, za, words) && checksum_of(za) == u64::from(checksum)
 }
 
 // Whether no word is refused.
 fn executes(bench: Bench, z: &[u8], p: &[u8], za: &mut [u8], words: &[u32]) -> bool {
-    let mut i = 0;
-    while i < words.len() {
-        let outcome = machine::execute(bench, z, p, za, words[i]);
+    for &word in words {
+        let outcome = machine::execute(bench, z, p, za, word);
         if let machine::Outcome::Refused(_) = outcome {
             return false;
         }
-        i += 1;
     }
     true
 }
 
 fn checksum_of(bytes: &[u8]) -> u64 {
     let mut h: u64 = 0;
-    let mut i = 0;
-    while i < bytes.len() {
-        h = (h * 257 + checks::wide(bytes[i]) + 1) % 4294967291;
-        i += 1;
+    for &byte in bytes {
+        h = (h * 257 + u64::from(byte) + 1) % 4294967291;
     }
     h
 }

@@ -3,9 +3,7 @@
 // and how many miss which features.
 #![tactic(auto)]
 
-ghost use Rattle.std.specs.Prelude.{◌<◌};
-
-use checks::{count, one_if, plus};
+use checks::count;
 use isa::{Checked, Decoded, Encoded, Instruction, Operation, Refusal};
 use refusals::Sums;
 
@@ -16,8 +14,17 @@ const DOCUMENT_01: u32 = 7;
 
 const NO_FEATURE: u32 = 0;
 
-// The lines of the table are numbered from 0; a refused word has none.
-const NO_LINE: u32 = 7;
+// A line of the table.
+#[derive(Clone, Copy)]
+pub enum TableLine {
+    Predicated32,
+    Predicated64,
+    PredicatedTwoWay,
+    Quarter32,
+    Quarter64,
+    QuarterTwoWay,
+    Zero,
+}
 
 #[derive(Clone, Copy)]
 pub struct Tally {
@@ -47,17 +54,17 @@ fn report(flags: u32) {
     count(b"quarter 32: ", t.quarter32);
     count(b"quarter 64: ", t.quarter64);
     count(b"zero: ", t.zero);
-    let predicated = plus(t.predicated32, t.predicated64);
-    let quarter = plus(t.quarter32, t.quarter64);
-    let base = plus(plus(predicated, quarter), t.zero);
+    let predicated = t.predicated32.wrapping_add(t.predicated64);
+    let quarter = t.quarter32.wrapping_add(t.quarter64);
+    let base = predicated.wrapping_add(quarter).wrapping_add(t.zero);
     count(b"document 01's table: ", base);
     count(b"predicated 2-way: ", t.predicated_two_way);
     count(b"quarter 2-way: ", t.quarter_two_way);
-    let two_way = plus(t.predicated_two_way, t.quarter_two_way);
-    count(b"total: ", plus(base, two_way));
+    let two_way = t.predicated_two_way.wrapping_add(t.quarter_two_way);
+    count(b"total: ", base.wrapping_add(two_way));
     count(b"encoded to another word: ", t.changed);
     count(b"checked otherwise: ", t.otherwise);
-    refusals::report_sums(t.sums);
+    t.sums.report();
 }
 
 fn sweep(flags: u32) -> Tally {
@@ -73,31 +80,52 @@ fn sweep(flags: u32) -> Tally {
         otherwise: 0,
         sums: refusals::no_sums(),
     };
-    let mut w: u64 = 0;
-    while w < 0x1_0000_0000 {
-        with_word(&mut t, flags, w as u32);
-        w += 1;
+    for word in 0..0x1_0000_0000u64 {
+        t.add_word(flags, word as u32);
     }
     t
 }
 
-// Counts one word more. The tally is lent, as copying it for each word takes most of the time.
-fn with_word(t: &mut Tally, flags: u32, word: u32) {
-    let checked = isa::check(flags, word);
-    match isa::decode(flags, word) {
-        Decoded::Accepted(i) => {
-            *t = counted(*t, line(i), encodes_to(i, word), passed(checked), 0);
+impl Tally {
+    // Counts one word more. The tally is lent, as copying it for each word takes most of the time.
+    fn add_word(&mut self, flags: u32, word: u32) {
+        let checked = isa::check(flags, word);
+        match isa::decode(flags, word) {
+            Decoded::Accepted(i) => {
+                self.add_line(line(i));
+                self.add_answers(encodes_to(i, word), passed(checked));
+            }
+            Decoded::Refused(r) => self.add_refused(refused_by(checked, r), isa::missing_in(r)),
         }
-        Decoded::Refused(r) => with_refused(t, refused_by(checked, r), isa::missing_in(r)),
     }
-}
 
-// Most words are unlisted, and change no count.
-fn with_refused(t: &mut Tally, same_check: bool, sum: u32) {
-    if same_check & (sum == 0) {
-        return;
+    // Most words are unlisted, and change no count.
+    fn add_refused(&mut self, same_check: bool, sum: u32) {
+        if same_check & (sum == 0) {
+            return;
+        }
+        self.add_answers(true, same_check);
+        self.sums = self.sums.with_sum(sum);
     }
-    *t = counted(*t, NO_LINE, true, same_check, sum);
+
+    fn add_answers(&mut self, same_word: bool, same_check: bool) {
+        self.changed = self.changed.wrapping_add(u64::from(!same_word));
+        self.otherwise = self.otherwise.wrapping_add(u64::from(!same_check));
+    }
+
+    fn add_line(&mut self, line: TableLine) {
+        match line {
+            TableLine::Predicated32 => self.predicated32 = self.predicated32.wrapping_add(1),
+            TableLine::Predicated64 => self.predicated64 = self.predicated64.wrapping_add(1),
+            TableLine::PredicatedTwoWay => {
+                self.predicated_two_way = self.predicated_two_way.wrapping_add(1);
+            }
+            TableLine::Quarter32 => self.quarter32 = self.quarter32.wrapping_add(1),
+            TableLine::Quarter64 => self.quarter64 = self.quarter64.wrapping_add(1),
+            TableLine::QuarterTwoWay => self.quarter_two_way = self.quarter_two_way.wrapping_add(1),
+            TableLine::Zero => self.zero = self.zero.wrapping_add(1),
+        }
+    }
 }
 
 // Whether nothing is refused.
@@ -126,23 +154,8 @@ fn same_refusal(s: Refusal, r: Refusal) -> bool {
     (isa::number(s) == isa::number(r)) & (isa::missing_in(s) == isa::missing_in(r))
 }
 
-fn counted(t: Tally, line: u32, same_word: bool, same_check: bool, sum: u32) -> Tally {
-    Tally {
-        predicated32: plus(t.predicated32, one_if(line == 0)),
-        predicated64: plus(t.predicated64, one_if(line == 1)),
-        quarter32: plus(t.quarter32, one_if(line == 2)),
-        quarter64: plus(t.quarter64, one_if(line == 3)),
-        zero: plus(t.zero, one_if(line == 4)),
-        predicated_two_way: plus(t.predicated_two_way, one_if(line == 5)),
-        quarter_two_way: plus(t.quarter_two_way, one_if(line == 6)),
-        changed: plus(t.changed, one_if(!same_word)),
-        otherwise: plus(t.otherwise, one_if(!same_check)),
-        sums: refusals::with_sum(t.sums, sum),
-    }
-}
-
 // The instruction's line of the table.
-fn line(i: Instruction) -> u32 {
+fn line(i: Instruction) -> TableLine {
     match i {
         Instruction::Predicated {
             op,
@@ -151,25 +164,36 @@ fn line(i: Instruction) -> u32 {
             pm: _,
             zn: _,
             zm: _,
-        } => line_of(op, 0, 5),
+        } => line_of(
+            op,
+            TableLine::Predicated32,
+            TableLine::Predicated64,
+            TableLine::PredicatedTwoWay,
+        ),
         Instruction::Quarter {
             op,
             tile: _,
             first: _,
             second: _,
-        } => line_of(op, 2, 6),
-        Instruction::Zero(_) => 4,
+        } => line_of(
+            op,
+            TableLine::Quarter32,
+            TableLine::Quarter64,
+            TableLine::QuarterTwoWay,
+        ),
+        Instruction::Zero(_) => TableLine::Zero,
     }
 }
 
-// That of an outer product: the wide line of a family stands behind its narrow one.
-fn line_of(op: Operation, narrow: u32, two_way: u32) -> u32
-    requires { narrow < 8 }
-{
+// That of an outer product, of its family's three.
+fn line_of(op: Operation, narrow: TableLine, wide: TableLine, two_way: TableLine) -> TableLine {
     if op.two_way {
-        return two_way;
+        two_way
+    } else if op.wide {
+        wide
+    } else {
+        narrow
     }
-    if op.wide { narrow + 1 } else { narrow }
 }
 
 fn encodes_to(i: Instruction, word: u32) -> bool {

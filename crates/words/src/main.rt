@@ -3,7 +3,7 @@
 // Then tells how many of its words miss which features where none is on.
 #![tactic(auto)]
 
-use checks::{Number, Outcome, STDIN_FILENO, STDOUT_FILENO, Tally};
+use checks::{Outcome, STDIN_FILENO, STDOUT_FILENO, Tally};
 use isa::Refusal;
 use reader::Reading;
 use refusals::Sums;
@@ -41,29 +41,21 @@ fn main() {
 }
 
 fn report(c: Compared) {
-    checks::report(b"lines: ", c.tally);
-    refusals::report_sums(c.sums);
+    c.tally.report(b"lines: ");
+    c.sums.report();
 }
 
 // A last line with no line feed is malformed: the list may have been cut there.
 fn compare(list: &[u8]) -> Compared {
-    let mut tally = Tally {
-        lines: 0,
-        agreed: 0,
-        malformed: 0,
-    };
+    let mut tally = Tally::default();
     let mut sums = refusals::no_sums();
-    let mut at = 0;
-    while at < list.len() {
-        let end = checks::field_end(list, at, b'\n');
-        if end == list.len() {
-            tally = checks::counted(tally, Outcome::Malformed);
-            return Compared { tally, sums };
-        }
-        let line = &list[at..end];
-        tally = checks::counted(tally, line_outcome(line));
-        sums = refusals::with_sum(sums, missed_by(line));
-        at = end + 1;
+    for line in list.split_inclusive(|&byte| byte == b'\n') {
+        let Some(line) = line.strip_suffix(b"\n") else {
+            tally = tally.counted(Outcome::Malformed);
+            break;
+        };
+        tally = tally.counted(line_outcome(line));
+        sums = sums.with_sum(missed_by(line));
     }
     Compared { tally, sums }
 }
@@ -71,14 +63,14 @@ fn compare(list: &[u8]) -> Compared {
 // What the word of a line misses where no feature is on, if the line has one.
 fn missed_by(line: &[u8]) -> u32 {
     match word_of(line) {
-        Number::Value(w) => missing(0, w),
-        Number::Malformed => 0,
+        Some(w) => missing(0, w),
+        None => 0,
     }
 }
 
 // What comes of a line, which is lent without its line feed.
 fn line_outcome(line: &[u8]) -> Outcome {
-    if line.len() == 0 {
+    if line.is_empty() {
         return Outcome::Malformed;
     }
     if line[0] == b'#' {
@@ -94,15 +86,15 @@ fn line_outcome(line: &[u8]) -> Outcome {
         return Outcome::Malformed;
     }
     match word_of(line) {
-        Number::Value(w) => word_outcome(w, &line[TEXT_AT..]),
-        Number::Malformed => Outcome::Malformed,
+        Some(w) => word_outcome(w, &line[TEXT_AT..]),
+        None => Outcome::Malformed,
     }
 }
 
 // The word at the start of a line.
-fn word_of(line: &[u8]) -> Number {
+fn word_of(line: &[u8]) -> Option<u32> {
     if line.len() < TEXT_AT {
-        return Number::Malformed;
+        return None;
     }
     checks::hexadecimal_of(&line[..TEXT_AT - 1])
 }
@@ -146,16 +138,7 @@ fn text_agrees(w: u32, n: usize, room: &[u8], listed: &[u8]) -> bool {
 // Whether room has a listed text in its first n bytes, and the bytes after it as they were. The mark of an unlisted
 // word is no text.
 fn holds(room: &[u8], n: usize, listed: &[u8]) -> bool {
-    if marks_unlisted(listed) {
-        return false;
-    }
-    if n > room.len() {
-        return false;
-    }
-    if !check::same(&room[0..n], listed) {
-        return false;
-    }
-    untouched(&room[n..])
+    !marks_unlisted(listed) && n <= room.len() && &room[..n] == listed && untouched(&room[n..])
 }
 
 // Whether a room of n bytes gets the listed text too.
@@ -175,12 +158,7 @@ fn short_room_refused(w: u32, n: usize) -> bool {
     let mut room = [FILL; TEXT_ROOM];
     match print_into(w, n - 1, &mut room) {
         Printed::Length(_) => false,
-        Printed::Refused(refusal) => {
-            if isa::number(refusal) != ROOM_TOO_SHORT {
-                return false;
-            }
-            untouched(&room)
-        }
+        Printed::Refused(refusal) => { isa::number(refusal) == ROOM_TOO_SHORT && untouched(&room) }
     }
 }
 
@@ -225,36 +203,23 @@ fn missing(flags: u32, w: u32) -> u32 {
 
 // Prints into the first n bytes of room, or into all if there are fewer.
 fn print_into(w: u32, n: usize, room: &mut [u8]) -> Printed {
-    if n < room.len() {
-        return text::print(isa::ALL_FLAGS, w, &mut room[0..n]);
-    }
-    text::print(isa::ALL_FLAGS, w, room)
+    let most = n.min(room.len());
+    text::print(isa::ALL_FLAGS, w, &mut room[..most])
 }
 
 // Whether every byte is as the room was filled.
 fn untouched(bytes: &[u8]) -> bool {
-    let mut i = 0;
-    while i < bytes.len() {
-        if bytes[i] != FILL {
-            return false;
-        }
-        i += 1;
-    }
-    true
+    bytes.iter().all(|&byte| byte == FILL)
 }
 
 fn marks_unlisted(listed: &[u8]) -> bool {
-    check::same(b"-", listed)
+    listed == b"-".as_slice()
 }
 
 // Whether a refusal is what is listed, and left room as it was; if not, a line shows both.
 fn refusal_agrees(w: u32, refusal: Refusal, room: &[u8], listed: &[u8]) -> bool {
-    if isa::number(refusal) == UNLISTED {
-        if marks_unlisted(listed) {
-            if untouched(room) {
-                return true;
-            }
-        }
+    if isa::number(refusal) == UNLISTED && marks_unlisted(listed) && untouched(room) {
+        return true;
     }
     io::print_hex(STDOUT_FILENO, w as u64, 8);
     io::write_all(STDOUT_FILENO, b": refused ");
