@@ -1,4 +1,5 @@
 // A line of a listing, put into a room part by part. Each `put` puts a text at `at` and answers the place after it.
+// A struct over the lent room would be no plainer: each of its functions must promise too that it keeps the reference.
 ghost use Rattle.std.specs.Prelude.{◌≡◌, ◌+◌, ◌<◌, ◌≤◌, ◌++◌, length};
 ghost use Rattle.isa.specs.Refusals.{number};
 ghost use Rattle.text.specs.Ascii.{ascii};
