@@ -63,6 +63,47 @@ lookup-some (x ∷ es) e w p = go (matches x.row w) refl p (lookup-some es e w)
 pub lookup-none : {e : Entry} (w : ℕ) → lookup table w ≡ none → Memᴰ e table → matches e.row w ≡ true → ⊥
 lookup-none w p m h = let q = lookup_found w m h in let z : ◌≡◌ {A = ℕ} 0 1 = cc in omega arith
 
+-- ---- bits 25 to 28 are 0 in every line
+abbrev zero? : Option ℕ → Bool
+zero? none = false
+zero? (some x) = eqb x 0
+
+zero_bit : (r : Row) (w b : ℕ) → All (tests r w) → zero? (fixed_bit r b) ≡ true → w / 2 ^ b % 2 ≡ 0
+zero_bit r w b t h = go (fixed_bit r b) refl h
+  where
+    go : (o : Option ℕ) → fixed_bit r b ≡ o → zero? o ≡ true → w / 2 ^ b % 2 ≡ 0
+    go none e z = absurd (false≢true z)
+    go (some x) e z = fixed_bit_lem r w b x t e ∙ eqb-true x 0 z
+
+-- one bit more
+clear_above : (x k : ℕ) → x / 2 ^ k % 2 ≡ 0 → x % 2 ^ k ≡ 0 → x % 2 ^ (1 + k) ≡ 0
+clear_above x k h l = mod-pow-add x 1 k ∙ rw (h, l) (omega arith)
+
+abbrev clear_tests : Entry → List Bool
+clear_tests e = let r = e.row in zero? (fixed_bit r 25) ∷ zero? (fixed_bit r 26) ∷ zero? (fixed_bit r 27) ∷ zero? (fixed_bit r 28) ∷ []
+
+abbrev clear? : Entry → Bool
+clear? e = every (clear_tests e)
+
+table-clear : every (checked clear? table) ≡ true
+table-clear = refl
+
+pub lookup-clear : (w : ℕ) → (w / 2 ^ 25 % 16 ≡ 0 → ⊥) → lookup table w ≡ none
+lookup-clear w d = go (lookup table w) refl
+  where
+    go : (o : Option Entry) → lookup table w ≡ o → lookup table w ≡ none
+    go none p = p
+    go (some e) p =
+        let (m, h) = lookup-some table e w p in
+        let t = every_all (tests e.row w) h in
+        let c = every_all (clear_tests e) (at-line clear? table (every_all (checked clear? table) table-clear) m) in
+        let bit : (k : ℕ) → zero? (fixed_bit e.row (25 + k)) ≡ true → w / 2 ^ 25 / 2 ^ k % 2 ≡ 0 = λ k z. rw (shr-shr w 25 k) (zero_bit e.row w (25 + k) t z) in
+        let x = w / 2 ^ 25 in
+        absurd
+        (d
+        (clear_above x 3 (bit 3 c.1.1.1.0)
+        (clear_above x 2 (bit 2 c.1.1.0) (clear_above x 1 (bit 1 c.1.0) (clear_above x 0 (bit 0 c.0) (mod-one x))))))
+
 -- ---- at most one line
 no_lines : (es : List Entry) (w : ℕ) → ((x : Entry) → Memᴰ x es → matches x.row w ≡ false) → length (lines_of es w) ≤ 0
 no_lines [] w h = omega arith

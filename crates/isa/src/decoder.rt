@@ -1,5 +1,5 @@
 // What a word means: its line of the table, and the description that the line makes of its fields.
-ghost use Rattle.std.specs.Prelude.{◌≡◌, not, cond, eqb, ltb, ◌/◌, ◌%◌, ◌<◌, ◌≤◌, MatchResult, Ok, Err};
+ghost use Rattle.std.specs.Prelude.{◌≡◌, true, not, cond, eqb, ltb, ◌/◌, ◌%◌, ◌<◌, ◌≤◌, MatchResult, Ok, Err};
 ghost use Rattle.isa.specs.Row.{field_of};
 ghost use Rattle.isa.specs.Table.{predicated32, all_flags, lacking as lacking_of, predicated, quarter, described, operation_of_fields, source, element_bytes, tiles_of};
 ghost use Rattle.isa.specs.Refusals.{refusal_in, number_in, missing_beside};
@@ -38,6 +38,9 @@ pub fn decode(flags: u32, word: u32) -> Result<Instruction, Refusal>
     ensures number { number_in result ≡ decode_number flags word }
     ensures missing { missing_beside result ≡ decode_missing flags word }
 {
+    if is_far(flags, word) {
+        return Err(Refusal::Unlisted);
+    }
     let line = allowed_line(flags, word)?;
     Ok(describe(line, word))
 }
@@ -48,6 +51,9 @@ pub fn check(flags: u32, word: u32) -> Result<(), Refusal>
     ensures number { number_in result ≡ decode_number flags word }
     ensures missing { missing_beside result ≡ decode_missing flags word }
 {
+    if is_far(flags, word) {
+        return Err(Refusal::Unlisted);
+    }
     allowed_line(flags, word)?;
     Ok(())
 }
@@ -67,6 +73,13 @@ fn allowed_line(flags: u32, word: u32) -> Result<Line, Refusal>
         return Err(Refusal::FeatureOff { missing });
     }
     Ok(line)
+}
+
+// Whether flags are legal and the word differs from every line in four bits. Most words do, and are done with by this test.
+fn is_far(flags: u32, word: u32) -> bool
+    ensures { result ≡ true → decode_of flags word ≡ Err Refusal.Unlisted }
+{
+    flags_legal(flags) & ((word >> 25) % 16 != 0)
 }
 
 // The sum of the features that a line needs and flags lack.

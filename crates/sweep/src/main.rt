@@ -4,7 +4,7 @@
 #![tactic(auto)]
 
 use checks::count;
-use isa::{Checked, Decoded, Encoded, Instruction, Operation, Refusal};
+use isa::{Instruction, Operation, Refusal};
 use refusals::Sums;
 
 const ALL_FEATURES: u32 = 15;
@@ -87,25 +87,21 @@ fn sweep(flags: u32) -> Tally {
 }
 
 impl Tally {
-    // Counts one word more. The tally is lent, as copying it for each word takes most of the time.
+    // Counts one word more; most are unlisted, and change no count. The tally is lent, as copying it for each word takes most
+    // of the time.
     fn add_word(&mut self, flags: u32, word: u32) {
         let checked = isa::check(flags, word);
         match isa::decode(flags, word) {
-            Decoded::Accepted(i) => {
+            Ok(i) => {
                 self.add_line(line(i));
-                self.add_answers(encodes_to(i, word), passed(checked));
+                self.add_answers(encodes_to(i, word), checked.is_ok());
             }
-            Decoded::Refused(r) => self.add_refused(refused_by(checked, r), isa::missing_in(r)),
+            Err(Refusal::Unlisted) if matches!(checked, Err(Refusal::Unlisted)) => {}
+            Err(r) => {
+                self.add_answers(true, checked == Err(r));
+                self.sums = self.sums.with_sum(isa::missing_in(r));
+            }
         }
-    }
-
-    // Most words are unlisted, and change no count.
-    fn add_refused(&mut self, same_check: bool, sum: u32) {
-        if same_check & (sum == 0) {
-            return;
-        }
-        self.add_answers(true, same_check);
-        self.sums = self.sums.with_sum(sum);
     }
 
     fn add_answers(&mut self, same_word: bool, same_check: bool) {
@@ -128,55 +124,17 @@ impl Tally {
     }
 }
 
-// Whether nothing is refused.
-fn passed(c: Checked) -> bool {
-    match c {
-        Checked::Passed => true,
-        Checked::Refused(_) => false,
-    }
-}
-
-// Whether it is this refusal, with the same number and sum.
-fn refused_by(c: Checked, r: Refusal) -> bool {
-    match c {
-        Checked::Passed => false,
-        Checked::Refused(s) => same_refusal(s, r),
-    }
-}
-
-// Most words are unlisted, which needs no comparison of numbers.
-fn same_refusal(s: Refusal, r: Refusal) -> bool {
-    if let Refusal::Unlisted = s {
-        if let Refusal::Unlisted = r {
-            return true;
-        }
-    }
-    (isa::number(s) == isa::number(r)) & (isa::missing_in(s) == isa::missing_in(r))
-}
-
 // The instruction's line of the table.
 fn line(i: Instruction) -> TableLine {
     match i {
-        Instruction::Predicated {
-            op,
-            tile: _,
-            pn: _,
-            pm: _,
-            zn: _,
-            zm: _,
-        } => line_of(
-            op,
+        Instruction::Predicated(p) => line_of(
+            p.op,
             TableLine::Predicated32,
             TableLine::Predicated64,
             TableLine::PredicatedTwoWay,
         ),
-        Instruction::Quarter {
-            op,
-            tile: _,
-            first: _,
-            second: _,
-        } => line_of(
-            op,
+        Instruction::Quarter(q) => line_of(
+            q.op,
             TableLine::Quarter32,
             TableLine::Quarter64,
             TableLine::QuarterTwoWay,
@@ -197,8 +155,5 @@ fn line_of(op: Operation, narrow: TableLine, wide: TableLine, two_way: TableLine
 }
 
 fn encodes_to(i: Instruction, word: u32) -> bool {
-    match isa::encode(i) {
-        Encoded::Word(w) => w == word,
-        Encoded::Refused(_) => false,
-    }
+    isa::encode(i) == Ok(word)
 }

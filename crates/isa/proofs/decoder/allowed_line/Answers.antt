@@ -1,5 +1,5 @@
 -- `isa::decoder::allowed_line` meets its contract: by the flags, then by the word's line and what it lacks. Assumes nothing.
-use mathlib.Core.Path.{◌≡◌, sym}
+use mathlib.Core.Path.{sym}
 use Rattle.isa.proofs.Answers.{flags_fit, flags_exceed, decode_flags, decode_unlisted, decode_lacking, decode_open}
 use Rattle.isa.proofs.decoder.allowed_line.Goals as goal
 
