@@ -1,6 +1,6 @@
 -- What a shape gives: elements of its size fill a row, its products fill an element, and source elements lie in their
 -- registers. Assumes nothing.
-use Rattle.std.proofs.Common.{◌≡◌, ℕ, suc, ◌+◌, ◌-◌, ◌*◌, ◌/◌, ◌^◌, ◌<◌, ◌≤◌, Bool, true, false, cond, ltb, List, ℤ, refl, mul-le-mul_right, mul-le-mul_left, le-div_iff_mul-le, arith, lit<, lit≤}
+use Rattle.std.proofs.Common.{◌≡◌, ℕ, zero, suc, ◌%◌, le-ltb, lt-ltb, ◌+◌, ◌-◌, ◌*◌, ◌/◌, ◌^◌, ◌<◌, ◌≤◌, Bool, true, false, cond, ltb, List, ℤ, refl, mul-le-mul_right, mul-le-mul_left, le-div_iff_mul-le, arith, lit<, lit≤}
 use native.Mathlib.Nat.{div_self}
 use Rattle.storage.specs.Modulo.{plus}
 use Rattle.storage.specs.Sizes.{legal}
@@ -9,7 +9,7 @@ use Rattle.outer.specs.declared.Operand.{Operand}
 use Rattle.outer.specs.declared.OuterProduct.{OuterProduct}
 use Rattle.outer.specs.declared.task.Task.{Task}
 use Rattle.outer.specs.Products.{register_at, Shaped, bytes32, halves64, halves32, GoodOperand, Ready}
-use Rattle.outer.specs.Walks.{FourOrEight, four, eight, ByteOrHalf, byte, half}
+use Rattle.outer.specs.Walks.{FourOrEight, four, eight, ByteOrHalf, byte, half, SameUntil}
 use Rattle.outer.proofs.Progress.{Tiled}
 
 -- ---- sizes
@@ -161,3 +161,17 @@ module _ (t : Task) {B : ℕ} (e : B ≡ t.o.element / t.o.products) where
 
   pub spot_in : {register i : ℕ} → register < 32 → i * B + B ≤ t.vb → Spot t.vb register i B
   spot_in h i = spot t.ready.length_legal h (rw e (shape t.shaped).source) i
+
+-- ---- runs of columns for which a source is one register
+pub two_runs : (o : Operand) (n : ℕ) → 0 < n → n % 2 ≡ 0 → (run : ℕ) → run < 2 → SameUntil o n (run * (n / 2)) ((run + 1) * (n / 2))
+two_runs o n h e zero l = record { more = omega arith; inside = omega arith; same = λ i a b. rw (lt-ltb i (n / 2) (omega arith), lt-ltb (0 * (n / 2)) (n / 2) (omega arith)) }
+two_runs o n h e (suc zero) l = record { more = omega arith; inside = omega arith; same = λ i a b. rw (le-ltb i (n / 2) (omega arith), le-ltb (1 * (n / 2)) (n / 2) (omega arith)) }
+two_runs o n h e (suc (suc run)) l = absurd (omega arith)
+
+-- a tile has an even number of columns
+pub even_columns : (t : Task) → (0 < t.vb / t.o.element) × ((t.vb / t.o.element) % 2 ≡ 0)
+even_columns t = go (shape t.shaped).element (legal-length t.vb t.ready.length_legal)
+  where
+    go : {E : ℕ} → FourOrEight E → Length t.vb → (0 < t.vb / E) × ((t.vb / E) % 2 ≡ 0)
+    go four n = omega (arith, n.sixteens, n.least)
+    go eight n = omega (arith, n.sixteens, n.least)

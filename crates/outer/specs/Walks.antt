@@ -67,11 +67,7 @@ abbrev pub Added : ℕ → OuterProduct → List ℕ → List ℕ → ℕ → �
 Added vb o z p row from to before after =
     let cols = vb / o.element in AddedTo o.element vb o.tile.0 (sums vb o z p) (row * cols + from) (row * cols + to) before after
 
--- the row or column, of n, up to which an operand's register is the one that it has at `from`
-abbrev pub same_until : Operand → ℕ → ℕ → ℕ
-same_until o n from = cond (o.low.0 == o.high.0) n (cond (nat_lt from (n / 2)) (n / 2) n)
-
--- up to `to` it is
+-- rows or columns `from` to `to`, of n, for which an operand is one register
 pub record SameUntil (o : Operand) (n from to : ℕ) : Type 0 where
   pub more : from < to
   pub inside : to ≤ n

@@ -1,14 +1,14 @@
 // The walk over a tile, one for all shapes: the second source is read once for a word, and a row's first-source elements once;
 // where a source is a pair, once for each half of the rows, or of the columns.
-ghost use Rattle.std.specs.Prelude.{◌≡◌, ◌+◌, ◌*◌, ◌/◌, ◌<◌, length, IfSome};
+ghost use Rattle.std.specs.Prelude.{◌≡◌, ℕ, ◌+◌, ◌*◌, ◌/◌, ◌<◌, length, IfSome};
 ghost use Rattle.storage.specs.Sizes.{za_size};
 ghost use Rattle.storage.specs.Tile.{add_to};
 ghost use Rattle.outer.specs.Products.{register_at, sums, Shaped, Ready};
-ghost use Rattle.outer.specs.Walks.{Fetched, Planes, Added, same_until, SameUntil};
+ghost use Rattle.outer.specs.Walks.{Fetched, Planes, Added, SameUntil};
 
+use crate::OuterProduct;
 use crate::product::{add_signed, load, multiply, store};
 use crate::task::Task;
-use crate::{Operand, OuterProduct};
 
 // Adds an outer product to its tile, on vectors of vb bytes.
 pub fn update(vb: usize, o: OuterProduct, z: &[u8], p: &[u8], za: &mut [u8])
@@ -57,18 +57,31 @@ impl Task<'_> {
         }
     }
 
-    // A row, by the registers of the first source: it has one for all columns, or two.
+    // A row, by the registers of the first source. One call serves all runs: with two the compiler keeps the columns' walk apart,
+    // and a list of words takes a seventh to a half longer.
     fn add_row(&self, row: usize, y: &[i32], za: &mut [u8])
         requires za_len { length za.old ≡ za_size self.now.vb }
         requires row_bound { row < self.now.vb / self.now.o.element }
         requires planes { let t = self.now in Planes t.vb t.o t.z.now t.p.now (register_at t.o.second (t.vb / t.o.element) row) y.now }
         ensures { Added self.now.vb self.now.o self.now.z.now self.now.p.now row 0 (self.now.vb / self.now.o.element) za.old za.new }
     {
+        let (runs, columns) = self.runs();
+        for run in 0..runs {
+            self.add_part(row, run * columns, (run + 1) * columns, y, za);
+        }
+    }
+
+    // How many runs of columns there are for which the first source is one register, and the columns of each: one run of all, or
+    // two halves.
+    fn runs(&self) -> (usize, usize)
+        ensures whole { result.0 * result.1 ≡ self.now.vb / self.now.o.element }
+        ensures same { (run : ℕ) → run < result.0 → SameUntil self.now.o.first (self.now.vb / self.now.o.element) (run * result.1) ((run + 1) * result.1) }
+    {
         let n = self.columns();
-        let to = same_until(self.o.first, n, 0);
-        self.add_part(row, 0, to, y, za);
-        if to < n {
-            self.add_part(row, to, n, y, za);
+        if self.o.first.low.0 == self.o.first.high.0 {
+            (1, n)
+        } else {
+            (2, n / 2)
         }
     }
 
@@ -136,17 +149,4 @@ impl Task<'_> {
             store(E, za, i, sum);
         }
     }
-}
-
-// The row or column, of n, up to which an operand's register is the one that it has at `from`.
-fn same_until(o: Operand, n: usize, from: usize) -> usize
-    ensures { result ≡ same_until o n from }
-{
-    if o.low.0 == o.high.0 {
-        return n;
-    }
-    if from < n / 2 {
-        return n / 2;
-    }
-    n
 }

@@ -61,8 +61,7 @@ pub multiply-requires-clause-x_bound : goal.multiply-requires-clause-x_bound
 multiply-requires-clause-x_bound g c =
     let t = c.args.self.now in
     let q = c.requires in
-    let b : c.loop-j.j < t.o.products = rw q.shape.1 c.loop-j-test.true in
-    (
+    let b : c.loop-j.j < t.o.products = rw q.shape.1 c.loop-j-test.true in (
       small_as t q.shape (signed_at c.args.x.now (2 * c.loop-j.j)) (first_small t q.same_until q.fetched q.planes c.loop-c.auto.c c.loop-c-test.true b),
       small_as t q.shape (signed_at c.args.y.now (64 * c.loop-j.j + c.loop-c.c)) (second_small t q.same_until q.fetched q.planes c.loop-c.auto.c c.loop-c-test.true b),
     )
