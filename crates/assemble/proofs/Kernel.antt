@@ -1,48 +1,51 @@
 -- A text's first line and the others, and what makes a line blank or a comment. Assumes nothing.
-use mathlib.Core.Path.{◌≡◌, ◌∙◌, sym, ap, refl}
+use mathlib.Core.Path.{◌≡◌, ◌∙◌, ap, refl}
 use mathlib.Core.Bool.{Bool, true, false, cond, ◌&&◌}
 use mathlib.Core.List.{[], ◌∷◌}
-use Prim.Native.Nat.{ℕ, suc, ◌+◌, ◌-◌, ◌≤◌, ◌<◌}
-use native.Mathlib.Omega.{arith}
+use Prim.Native.Nat.{ℕ}
 use lib.Dec.{eqb}
-use lib.ListN.{length, take, drop, length-drop, drop_of_length-le}
-use lib.Seq.{drop-drop}
-use Rattle.std.specs.List.{list_all}
+use Rattle.std.specs.List.{list_all, slice_split, onto_first}
+use Rattle.std.specs.Prelude.{List, ◌++◌, map, Ok, None}
 use Rattle.text.specs.Spelling.{Text}
-use Rattle.checks.specs.Text.{field_length}
 use Rattle.assemble.specs.Kernel.{Assembled, with_byte, lines, is_space, is_blank, assembled, count_over}
 
--- ---- lines
-first_line : (t : Text) → 0 < length t → lines t ≡ take (field_length 10 t) t ∷ lines (drop (suc (field_length 10 t)) t)
-unfolding lines field_length
-first_line [] h = absurd (omega arith)
-first_line (b ∷ t) h = go t (first_line t) (eqb b 10)
-  where
-    go : (t : Text) → (0 < length t → lines t ≡ take (field_length 10 t) t ∷ lines (drop (suc (field_length 10 t)) t)) → (e : Bool)
-        → (let k = cond e 0 (suc (field_length 10 t)) in cond e ([] ∷ lines t) (with_byte b (lines t)) ≡ take k (b ∷ t) ∷ lines (drop (suc k) (b ∷ t)))
-    go t rest true = refl
-    go [] rest false = refl
-    go (c ∷ u) rest false = ap (with_byte b) (rest (omega arith))
+-- ---- lines, and the parts that the library cuts a text into at line feeds: the same, but for an empty part behind the last line feed
+data Cut : List Text → List Text → Type 0 where
+  ended : (ts : List Text) → Cut (ts ++ ([] ∷ [])) ts
+  open-end : (l : Text) (ls : List Text) → Cut (l ∷ ls) (l ∷ ls)
 
--- from a place on, the line that ends at `end` and the lines behind it
-line_at : (t : Text) (at end : ℕ) → at < length t → end ≡ at + field_length 10 (drop at t)
-    → lines (drop at t) ≡ take (end - at) (drop at t) ∷ lines (drop (end + 1) t)
-line_at t at end h e =
-    let k = field_length 10 (drop at t) in
-    let p : k ≡ end - at = omega arith in
-    let q : at + suc k ≡ end + 1 = omega arith in
-    first_line (drop at t) (omega (arith, length-drop at t))
-    ∙ ap (λ (n : ℕ). take n (drop at t) ∷ lines (drop (suc k) (drop at t))) p
-    ∙ ap (λ (r : Text). take (end - at) (drop at t) ∷ lines r) (drop-drop (suc k) at t ∙ ap (λ (n : ℕ). drop n t) q)
+abbrev pub is_feed : ℕ → Bool
+is_feed b = eqb b 10
 
--- with that line counted, the lines behind it make the same number
-pub count_line : (f : ℕ → Assembled → ℕ) (n m : ℕ) (t : Text) (at end : ℕ) → at < length t → end ≡ at + field_length 10 (drop at t)
-    → m ≡ f n (assembled (take (end - at) (drop at t))) → count_over f m (lines (drop (end + 1) t)) ≡ count_over f n (lines (drop at t))
-count_line f n m t at end h e p = rw p (sym (ap (count_over f n) (line_at t at end h e)))
-
-pub count_end : (f : ℕ → Assembled → ℕ) (n : ℕ) (t : Text) (at : ℕ) → length t ≤ at → count_over f n (lines (drop at t)) ≡ n
+cut : (t : Text) → Cut (slice_split is_feed t) (lines t)
 unfolding lines
-count_end f n t at h = ap (λ (r : Text). count_over f n (lines r)) (drop_of_length-le t h)
+cut [] = ended []
+cut (b ∷ t) = go (slice_split is_feed t) (lines t) (cut t) (is_feed b)
+  where
+    go : (ps ls : List Text) → Cut ps ls → (e : Bool) → Cut (cond e ([] ∷ ps) (onto_first b ps)) (cond e ([] ∷ ls) (with_byte b ls))
+    go _ _ (ended ts) true = ended ([] ∷ ts)
+    go _ _ (ended []) false = open-end (b ∷ []) []
+    go _ _ (ended (l ∷ ls)) false = ended ((b ∷ l) ∷ ls)
+    go _ _ (open-end l ls) true = open-end [] (l ∷ ls)
+    go _ _ (open-end l ls) false = open-end (b ∷ l) ls
+
+-- one line more is counted
+pub count_push : {A : Type 0} (v : A → Text) (f : ℕ → Assembled → ℕ) (n : ℕ) (xs : List A) (x : A)
+    → count_over f n (map v (xs ++ (x ∷ []))) ≡ f (count_over f n (map v xs)) (assembled (v x))
+count_push v f n [] x = refl
+count_push v f n (y ∷ xs) x = count_push v f (f n (assembled (v y))) xs x
+
+count_snoc : (f : ℕ → Assembled → ℕ) (n : ℕ) (ts : List Text) (t : Text) → count_over f n (ts ++ (t ∷ [])) ≡ f (count_over f n ts) (assembled t)
+count_snoc f n [] t = refl
+count_snoc f n (u ∷ ts) t = count_snoc f (f n (assembled u)) ts t
+
+-- the parts make the same number as the lines: the empty part is left out
+pub count_cut : (f : ℕ → Assembled → ℕ) → ((n : ℕ) → f n (Ok None) ≡ n) → (n : ℕ) (t : Text) → count_over f n (slice_split is_feed t) ≡ count_over f n (lines t)
+count_cut f h n t = go (slice_split is_feed t) (lines t) (cut t)
+  where
+    go : (ps ls : List Text) → Cut ps ls → count_over f n ps ≡ count_over f n ls
+    go _ _ (ended ts) = count_snoc f n ts [] ∙ h (count_over f n ts)
+    go _ _ (open-end l ls) = refl
 
 -- ---- what the library says of all items, said of a blank line
 pub blank-all : (t : Text) → list_all is_space t ≡ is_blank t

@@ -45,22 +45,16 @@ fn none() -> Counts
     }
 }
 
-// Each line in turn; the last may have no line feed.
+// Each line in turn. The last may have no line feed; where it has one, nothing is left behind it, which is blank.
 fn assemble(text: &[u8]) -> Counts
     ensures words { result.words ≡ count_over words_after 0 (lines text.now) }
     ensures refused { result.refused ≡ count_over refused_after 0 (lines text.now) }
 {
     let mut counts = none();
     let mut line_number: u64 = 0;
-    let mut at = 0;
-    while at < text.len() {
-        let end = checks::field_end(text, at, b'\n');
+    for line in text.split(|&byte| byte == b'\n') {
         line_number = line_number.wrapping_add(1);
-        counts = take_line(counts, line_number, &text[at..end]);
-        if end == text.len() {
-            return counts;
-        }
-        at = end + 1;
+        counts = take_line(counts, line_number, line);
     }
     counts
 }

@@ -69,45 +69,60 @@ fn main() {
 }
 
 fn texts() {
-    text_of(FLAGS, 0xA0A0_0010);
-    text_of(FLAGS, 0xA0B1_A873);
-    text_of(FLAGS, 0x811E_8352);
-    text_of(FLAGS, 0x8100_0010);
-    text_of(FLAGS, 0x8100_8010);
-    text_of(FLAGS, 0xA0E0_0018);
-    text_of(FLAGS, 0xA0E1_0018);
-    text_of(FLAGS, 0xA0E0_0038);
-    text_of(0, USMOP4S_WIDE);
-    text_of(4, USMOP4S_WIDE);
-    text_of(6, USMOP4S_WIDE);
+    texts_of(
+        FLAGS,
+        &[
+            0xA0A0_0010,
+            0xA0B1_A873,
+            0x811E_8352,
+            0x8100_0010,
+            0x8100_8010,
+            0xA0E0_0018,
+            0xA0E1_0018,
+            0xA0E0_0038,
+        ],
+    );
+    for flags in [0, 4, 6] {
+        text_of(flags, USMOP4S_WIDE);
+    }
     text_of(FLAGS, 0xC008_0100);
     tile_of(6, USMOP4S_WIDE);
 }
 
 // The words that the examples below execute, so that their names can be held against them.
 fn words_executed() {
-    text_of(FLAGS, SMOPA);
-    text_of(FLAGS, SUMOPA);
-    text_of(FLAGS, SUMOPS);
-    text_of(FLAGS, UMOPA);
-    text_of(FLAGS, UMOPA_P0_P1);
-    text_of(FLAGS, UMOPA_WIDE);
-    text_of(FLAGS, UMOPA_ZA1);
-    text_of(FLAGS, UMOPA_ZA5_WIDE);
-    text_of(FLAGS, ZERO_ALL);
-    text_of(FLAGS, ZERO_ZA0_WIDE);
-    text_of(FLAGS, ZERO_ZA4_WIDE);
+    texts_of(
+        FLAGS,
+        &[
+            SMOPA,
+            SUMOPA,
+            SUMOPS,
+            UMOPA,
+            UMOPA_P0_P1,
+            UMOPA_WIDE,
+            UMOPA_ZA1,
+            UMOPA_ZA5_WIDE,
+            ZERO_ALL,
+            ZERO_ZA0_WIDE,
+            ZERO_ZA4_WIDE,
+        ],
+    );
 }
 
 fn two_way_words() {
-    text_of(ALL_FEATURES, SMOPA_TWO_WAY);
-    text_of(ALL_FEATURES, UMOPA_TWO_WAY);
-    text_of(ALL_FEATURES, UMOPS_TWO_WAY);
-    text_of(ALL_FEATURES, SMOP4S_TWO_WAY);
-    text_of(ALL_FEATURES, 0x8100_8018);
-    // No form has sources of different signs.
-    text_of(ALL_FEATURES, 0xA0A0_0008);
-    text_of(ALL_FEATURES, 0x8020_8008);
+    texts_of(
+        ALL_FEATURES,
+        &[
+            SMOPA_TWO_WAY,
+            UMOPA_TWO_WAY,
+            UMOPS_TWO_WAY,
+            SMOP4S_TWO_WAY,
+            0x8100_8018,
+            // No form has sources of different signs.
+            0xA0A0_0008,
+            0x8020_8008,
+        ],
+    );
     text_of(FLAGS, SMOPA_TWO_WAY);
     text_of(4, 0x8000_8008);
     text_of(16, SMOPA_TWO_WAY);
@@ -294,34 +309,24 @@ fn lengths() {
 }
 
 fn on() -> Bench {
-    modes_of(true, true)
+    Bench {
+        flags: FLAGS,
+        sm: true,
+        za: true,
+        vb: 16,
+    }
 }
 
 fn modes_of(sm: bool, za: bool) -> Bench {
-    Bench {
-        flags: FLAGS,
-        sm,
-        za,
-        vb: 16,
-    }
+    Bench { sm, za, ..on() }
 }
 
 fn with_flags(flags: u32) -> Bench {
-    Bench {
-        flags,
-        sm: true,
-        za: true,
-        vb: 16,
-    }
+    Bench { flags, ..on() }
 }
 
 fn length_of(vb: usize) -> Bench {
-    Bench {
-        flags: FLAGS,
-        sm: true,
-        za: true,
-        vb,
-    }
+    Bench { vb, ..on() }
 }
 
 // Apart, so that proofs take the array by its length alone: it is too long to compute with.
@@ -335,19 +340,26 @@ fn zero_and_umopas() -> [u32; LIST_ROOM]
 
 // What a person is told of the refusals that no example gets.
 fn meanings() {
-    meaning(Refusal::ZLength);
-    meaning(Refusal::PLength);
-    meaning(Refusal::ZaLength);
-    meaning(Refusal::OutOfRange);
-    meaning(Refusal::Room);
-    meaning(Refusal::NotText);
-    meaning(Refusal::Version);
-    meaning(Refusal::Format);
+    for r in [
+        Refusal::ZLength,
+        Refusal::PLength,
+        Refusal::ZaLength,
+        Refusal::OutOfRange,
+        Refusal::Room,
+        Refusal::NotText,
+        Refusal::Version,
+        Refusal::Format,
+    ] {
+        refused(r);
+        io::write_all(STDOUT_FILENO, b"\n");
+    }
 }
 
-fn meaning(r: Refusal) {
-    refused(r);
-    io::write_all(STDOUT_FILENO, b"\n");
+// The texts of words, each on a line.
+fn texts_of(flags: u32, words: &[u32]) {
+    for &word in words {
+        text_of(flags, word);
+    }
 }
 
 // A word's text, or its refusal.
@@ -416,10 +428,7 @@ fn example_on(name: &[u8], bench: Bench, z: &[u8], p: &[u8], za: &mut [u8], star
 // Executes two words on a ZA whose ZA0.D (0, 0) is 00000000ffffffff; that element then.
 fn in_turn(name: &[u8], z: &[u8], p: &[u8], one: u32, two: u32) {
     let mut za = [0u8; 256];
-    za[0] = 0xFF;
-    za[1] = 0xFF;
-    za[2] = 0xFF;
-    za[3] = 0xFF;
+    za[..4].fill(0xFF);
     in_turn_on(name, z, p, &mut za, one, two);
 }
 
@@ -482,63 +491,23 @@ fn hex(before: &[u8], n: u64) -> bool {
 }
 
 fn all_but_last(words: &[u32]) -> &[u32] {
-    if 0 < words.len() {
-        let n = words.len() - 1;
-        return &words[0..n];
-    }
-    words
+    &words[..words.len().saturating_sub(1)]
 }
 
 // How many bytes are not the value.
 fn changed(s: &[u8], value: u8) -> usize {
-    let mut n = 0;
-    let mut i = 0;
-    while i < s.len() {
-        n += one_if(s[i] != value);
-        i += 1;
-    }
-    n
-}
-
-fn one_if(b: bool) -> usize
-    ensures { result ≤ 1 }
-{
-    if b { 1 } else { 0 }
+    s.iter().filter(|byte| **byte != value).count()
 }
 
 // The first byte that is not the value, or the length.
 fn first_changed(s: &[u8], value: u8) -> usize {
-    let mut i = 0;
-    while i < s.len() {
-        if s[i] != value {
-            return i;
-        }
-        i += 1;
-    }
-    i
+    s.iter().position(|byte| *byte != value).unwrap_or(s.len())
 }
 
 // Four bytes, little-endian.
-fn element32(s: &[u8], at: usize) -> u64
-    requires { at ≤ 4 }
-{
-    byte(s, at)
-        + byte(s, at + 1) * 0x100
-        + byte(s, at + 2) * 0x1_0000
-        + byte(s, at + 3) * 0x100_0000
-}
-
-fn byte(s: &[u8], at: usize) -> u64
-    ensures { result ≤ 255 }
-{
-    if at < s.len() {
-        return widened(s[at]);
+fn element32(s: &[u8], at: usize) -> u64 {
+    match s.get(at..) {
+        Some([a, b, c, d, ..]) => u64::from(u32::from_le_bytes([*a, *b, *c, *d])),
+        _ => 0,
     }
-    0
-}
-
-fn widened(x: u8) -> u64
-    ensures { result ≤ 255 }
-{
-    x as u64
 }

@@ -75,8 +75,8 @@ fn described(name: &[u8], flags: u32, word: u32) {
 }
 
 fn numbers(fields: &[u32]) {
-    for i in 0..fields.len() {
-        after_space(fields[i]);
+    for &field in fields {
+        after_space(field);
     }
     io::write_all(STDOUT_FILENO, b"\n");
 }
@@ -309,8 +309,8 @@ fn written(
 fn ends(file: &[u8]) {
     io::write_all(STDOUT_FILENO, b"file:");
     listed(checks::first(file, 21));
-    if 0 < file.len() {
-        byte(file[file.len() - 1]);
+    if let Some(&last) = file.last() {
+        byte(last);
     }
     io::write_all(STDOUT_FILENO, b"\n");
 }
@@ -359,15 +359,20 @@ fn read_back(name: &[u8], z: &[u8], p: &[u8], version: u8, n: usize, predicates:
         ),
     );
     numbers(&words);
-    four(vectors[0], vectors[511], vectors[512], tiles[255]);
-    byte(tiles[256]);
+    listed(&[
+        vectors[0],
+        vectors[511],
+        vectors[512],
+        tiles[255],
+        tiles[256],
+    ]);
     listed(predicates);
     io::write_all(STDOUT_FILENO, b"\n");
 }
 
 fn listed(bytes: &[u8]) {
-    for i in 0..bytes.len() {
-        byte(bytes[i]);
+    for &b in bytes {
+        byte(b);
     }
 }
 
@@ -409,17 +414,10 @@ fn answer(name: &[u8], n: u64) {
 fn bytes(za: &[u8]) {
     io::write_all(STDOUT_FILENO, b"ZA:");
     if 256 <= za.len() {
-        four(za[0], za[1], za[2], za[3]);
-        four(za[16], za[17], za[18], za[19]);
+        listed(&za[..4]);
+        listed(&za[16..20]);
     }
     io::write_all(STDOUT_FILENO, b"\n");
-}
-
-fn four(a: u8, b: u8, c: u8, d: u8) {
-    byte(a);
-    byte(b);
-    byte(c);
-    byte(d);
 }
 
 fn byte(b: u8) {

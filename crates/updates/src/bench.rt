@@ -39,31 +39,43 @@ pub(crate) fn predicated(vb: usize, wide: bool, tile: u32) -> Case {
 
 // The same of the quarter-tile family, on tile 0 and of single registers.
 pub(crate) fn quarter(vb: usize, wide: bool) -> Case {
-    let mut c = predicated(vb, wide, 0);
-    c.quarter = true;
-    c
+    Case {
+        quarter: true,
+        ..predicated(vb, wide, 0)
+    }
 }
 
-pub(crate) fn with_pairs(mut c: Case, first: bool, second: bool) -> Case {
-    c.first_pair = first;
-    c.second_pair = second;
-    c
-}
+impl Case {
+    pub(crate) fn with_pairs(self, first_pair: bool, second_pair: bool) -> Case {
+        Case {
+            first_pair,
+            second_pair,
+            ..self
+        }
+    }
 
-pub(crate) fn two_way(mut c: Case) -> Case {
-    c.two_way = true;
-    c
-}
+    pub(crate) fn as_two_way(self) -> Case {
+        Case {
+            two_way: true,
+            ..self
+        }
+    }
 
-pub(crate) fn with_signs(mut c: Case, u0: bool, u1: bool) -> Case {
-    c.u0 = u0;
-    c.u1 = u1;
-    c
-}
+    pub(crate) fn with_signs(self, u0: bool, u1: bool) -> Case {
+        Case { u0, u1, ..self }
+    }
 
-pub(crate) fn subtracted(mut c: Case) -> Case {
-    c.subtract = true;
-    c
+    pub(crate) fn subtracted(self) -> Case {
+        Case {
+            subtract: true,
+            ..self
+        }
+    }
+
+    // Whether source elements have 16 bits, and not 8.
+    fn has_halfwords(self) -> bool {
+        self.wide | self.two_way
+    }
 }
 
 fn operand(low: u32, high: u32, predication: Predication, unsigned: bool) -> Operand
@@ -140,69 +152,37 @@ fn outer_product(c: Case) -> OuterProduct
     }
 }
 
-// Updates the part of za that ZA has at the case's vector length, 16 or 32.
+// Updates the part of za that ZA has at the case's vector length, 16 or 32. Does nothing if what an update requires does not hold.
 pub(crate) fn run(c: Case, z: &[u8], p: &[u8], za: &mut [u8]) {
-    if c.vb != 16 {
-        return run_guarded(c, z, p, za);
-    }
-    if z.len() < 512 {
-        return;
-    }
-    if p.len() < 32 {
-        return;
-    }
-    if za.len() < 256 {
-        return;
-    }
-    run_guarded(c, &z[0..512], &p[0..32], &mut za[0..256]);
-}
-
-// Does nothing if what an update requires does not hold.
-fn run_guarded(c: Case, z: &[u8], p: &[u8], za: &mut [u8]) {
     let vb = c.vb;
     if !storage::is_legal(vb) {
         return;
     }
-    if z.len() != 32 * vb {
-        return;
-    }
-    if p.len() != 2 * vb {
-        return;
-    }
-    if za.len() != vb * vb {
+    let (z_size, p_size, za_size) = (32 * vb, 2 * vb, vb * vb);
+    if z.len() < z_size || p.len() < p_size || za.len() < za_size {
         return;
     }
     let o = outer_product(c);
     if (c.tile as usize) < o.element {
-        outer::update(vb, o, z, p, za);
+        outer::update(vb, o, &z[..z_size], &p[..p_size], &mut za[..za_size]);
     }
 }
 
-// Clears rows of the part of za that ZA has at a vector length, 16 or 32.
+// Clears rows of the part of za that ZA has at a vector length, 16 or 32. Does nothing if what clearing requires does not hold.
 pub(crate) fn clear(vb: usize, mask: u8, za: &mut [u8]) {
-    if vb != 16 {
-        return clear_guarded(vb, mask, za);
-    }
-    if za.len() < 256 {
-        return;
-    }
-    clear_guarded(vb, mask, &mut za[0..256]);
-}
-
-// Does nothing if what clearing requires does not hold.
-fn clear_guarded(vb: usize, mask: u8, za: &mut [u8]) {
     if !storage::is_legal(vb) {
         return;
     }
-    if za.len() != vb * vb {
+    let za_size = vb * vb;
+    if za.len() < za_size {
         return;
     }
-    outer::clear_tiles(vb, mask, za);
+    outer::clear_tiles(vb, mask, &mut za[..za_size]);
 }
 
 pub(crate) fn set_byte(s: &mut [u8], i: usize, v: u8) {
-    if i < s.len() {
-        s[i] = v;
+    if let Some(byte) = s.get_mut(i) {
+        *byte = v;
     }
 }
 
@@ -218,27 +198,20 @@ pub(crate) fn set_row(s: &mut [u8], width: usize, row: usize, even: u8, odd: u8)
     set_pattern(s, width, row, Pattern::Bytes(even, odd));
 }
 
-// Whether source elements have 16 bits, and not 8.
-fn has_halfwords(c: Case) -> bool {
-    c.wide | c.two_way
-}
-
 // Every element of a register is set to v, or the elements to 0, 1, 2, ..
 
 pub(crate) fn set_elements(z: &mut [u8], c: Case, register: usize, v: u8) {
-    if has_halfwords(c) {
-        set_row(z, c.vb, register, v, 0);
-    } else {
-        set_row(z, c.vb, register, v, v);
-    }
+    let odd = if c.has_halfwords() { 0 } else { v };
+    set_row(z, c.vb, register, v, odd);
 }
 
 pub(crate) fn set_ramp(z: &mut [u8], c: Case, register: usize) {
-    if has_halfwords(c) {
-        set_pattern(z, c.vb, register, Pattern::HalfwordRamp);
+    let ramp = if c.has_halfwords() {
+        Pattern::HalfwordRamp
     } else {
-        set_pattern(z, c.vb, register, Pattern::Ramp);
-    }
+        Pattern::Ramp
+    };
+    set_pattern(z, c.vb, register, ramp);
 }
 
 // Sets a row, of rows of a width.
@@ -246,19 +219,19 @@ fn set_pattern(s: &mut [u8], width: usize, row: usize, pattern: Pattern) {
     if width == 0 {
         return;
     }
-    for i in 0..s.len() {
-        s[i] = either(i / width == row, pattern_byte(pattern, i % width), s[i]);
+    for (i, byte) in s.iter_mut().enumerate() {
+        if i / width == row {
+            *byte = pattern.byte(i % width);
+        }
     }
 }
 
-fn either(b: bool, x: u8, y: u8) -> u8 {
-    if b { x } else { y }
-}
-
-fn pattern_byte(pattern: Pattern, i: usize) -> u8 {
-    match pattern {
-        Pattern::Bytes(even, odd) => either(i % 2 == 0, even, odd),
-        Pattern::Ramp => (i % 256) as u8,
-        Pattern::HalfwordRamp => either(i % 2 == 0, (i / 2 % 256) as u8, 0),
+impl Pattern {
+    fn byte(self, i: usize) -> u8 {
+        match self {
+            Pattern::Bytes(even, odd) => { if i % 2 == 0 { even } else { odd } }
+            Pattern::Ramp => (i % 256) as u8,
+            Pattern::HalfwordRamp => { if i % 2 == 0 { (i / 2 % 256) as u8 } else { 0 } }
+        }
     }
 }

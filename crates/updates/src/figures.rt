@@ -5,22 +5,10 @@ use crate::bench::Case;
 const STDOUT_FILENO: i32 = 1;
 
 // How many figures there were, and how many were as expected.
-#[derive(Clone, Copy)]
+#[derive(Clone, Copy, Default)]
 pub struct Tally {
     pub figures: u64,
     pub agreed: u64,
-}
-
-pub(crate) fn none() -> Tally {
-    Tally {
-        figures: 0,
-        agreed: 0,
-    }
-}
-
-pub(crate) fn report(t: Tally) {
-    count(b"figures: ", t.figures);
-    count(b"agreed: ", t.agreed);
 }
 
 fn count(name: &[u8], n: u64) {
@@ -29,56 +17,57 @@ fn count(name: &[u8], n: u64) {
     write(b"\n");
 }
 
-// The tile element of a case that starts at a byte of ZA.
-pub(crate) fn element(
-    t: Tally,
-    c: Case,
-    what: &[u8],
-    za: &[u8],
-    byte: usize,
-    expected: u64,
-) -> Tally {
-    write_case(c);
-    write(what);
-    write(b", byte ");
-    io::print_decimal(STDOUT_FILENO, byte as u64);
-    let wide = c.wide;
-    if wide {
-        compared(t, load64(za, byte), 16, expected)
-    } else {
-        compared(t, load32(za, byte), 8, expected)
+impl Tally {
+    pub(crate) fn report(self) {
+        count(b"figures: ", self.figures);
+        count(b"agreed: ", self.agreed);
     }
-}
 
-// How many bytes of ZA a case leaves so or so.
-pub(crate) fn bytes(t: Tally, c: Case, what: &[u8], value: u64, expected: u64) -> Tally {
-    write_case(c);
-    number(t, what, value, expected)
-}
-
-// A figure without a case.
-pub(crate) fn number(t: Tally, what: &[u8], value: u64, expected: u64) -> Tally {
-    write(what);
-    compared(t, value, 2, expected)
-}
-
-fn compared(t: Tally, value: u64, digits: usize, expected: u64) -> Tally {
-    write(b": ");
-    io::print_hex(STDOUT_FILENO, value, digits);
-    let same = value == expected;
-    if !same {
-        write(b" differs from ");
-        io::print_hex(STDOUT_FILENO, expected, digits);
+    // The tile element of a case that starts at a byte of ZA.
+    pub(crate) fn element(&mut self, c: Case, what: &[u8], za: &[u8], byte: usize, expected: u64) {
+        write_case(c);
+        write(what);
+        write(b", byte ");
+        io::print_decimal(STDOUT_FILENO, byte as u64);
+        let size = if c.wide { 8 } else { 4 };
+        self.compared(element_at(za, byte, size), 2 * size, expected);
     }
-    write(b"\n");
-    Tally {
-        figures: std::num::wrapping_add_u64(t.figures, 1),
-        agreed: std::num::wrapping_add_u64(t.agreed, one_if(same)),
-    }
-}
 
-fn one_if(b: bool) -> u64 {
-    if b { 1 } else { 0 }
+    // How many bytes of ZA a case leaves so or so.
+    pub(crate) fn bytes(&mut self, c: Case, what: &[u8], value: u64, expected: u64) {
+        write_case(c);
+        self.number(what, value, expected);
+    }
+
+    // A figure without a case.
+    pub(crate) fn number(&mut self, what: &[u8], value: u64, expected: u64) {
+        write(what);
+        self.compared(value, 2, expected);
+    }
+
+    // Byte i, under what is told of it with its place; 1 past the end.
+    pub(crate) fn byte(&mut self, what: &[u8], s: &[u8], i: usize, expected: u64) {
+        write(what);
+        io::print_decimal(STDOUT_FILENO, i as u64);
+        let value = match s.get(i) {
+            Some(&byte) => u64::from(byte),
+            None => 1,
+        };
+        self.compared(value, 2, expected);
+    }
+
+    fn compared(&mut self, value: u64, digits: usize, expected: u64) {
+        write(b": ");
+        io::print_hex(STDOUT_FILENO, value, digits);
+        let same = value == expected;
+        if !same {
+            write(b" differs from ");
+            io::print_hex(STDOUT_FILENO, expected, digits);
+        }
+        write(b"\n");
+        self.figures = self.figures.wrapping_add(1);
+        self.agreed = self.agreed.wrapping_add(u64::from(same));
+    }
 }
 
 fn write(text: &[u8]) {
@@ -142,42 +131,19 @@ fn write_signs(u0: bool, u1: bool) {
     }
 }
 
-// The element that starts at byte i, or 0 if it does not end in s.
-
-fn load32(s: &[u8], i: usize) -> u64 {
-    if s.len() < 4 {
+// The little-endian element of so many bytes that starts at byte i, or 0 if it does not end in s.
+fn element_at(s: &[u8], i: usize, size: usize) -> u64 {
+    let Some(bytes) = s.get(i..).and_then(|rest| rest.get(..size)) else {
         return 0;
+    };
+    let mut n: u64 = 0;
+    for &byte in bytes.iter().rev() {
+        n = n.wrapping_mul(256).wrapping_add(u64::from(byte));
     }
-    if i > s.len() - 4 {
-        return 0;
-    }
-    storage::load_u32(s, i) as u64
-}
-
-fn load64(s: &[u8], i: usize) -> u64 {
-    if s.len() < 8 {
-        return 0;
-    }
-    if i > s.len() - 8 {
-        return 0;
-    }
-    storage::load_u64(s, i)
-}
-
-// Byte i, or 1 past the end.
-pub(crate) fn byte_at(s: &[u8], i: usize) -> u64 {
-    if i < s.len() { wide(s[i]) } else { 1 }
-}
-
-fn wide(b: u8) -> u64 {
-    b as u64
+    n
 }
 
 // How many bytes are v.
 pub(crate) fn count_of(s: &[u8], v: u8) -> u64 {
-    let mut n = 0;
-    for i in 0..s.len() {
-        n = std::num::wrapping_add_u64(n, one_if(s[i] == v));
-    }
-    n
+    s.iter().filter(|byte| **byte == v).count() as u64
 }

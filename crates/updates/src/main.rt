@@ -10,11 +10,13 @@ mod quarter;
 mod sources;
 mod two_way;
 
+use figures::Tally;
+
 fn main() {
-    let mut t = figures::none();
-    t = predicated::all(t);
-    t = quarter::all(t);
-    t = two_way::all(t);
-    t = clearing::all(t);
-    figures::report(t);
+    let mut t = Tally::default();
+    predicated::all(&mut t);
+    quarter::all(&mut t);
+    two_way::all(&mut t);
+    clearing::all(&mut t);
+    t.report();
 }

@@ -3,39 +3,37 @@ use crate::bench::Case;
 use crate::figures::Tally;
 use crate::{bench, figures, sources};
 
-pub(crate) fn all(t: Tally) -> Tally {
-    let mut t = t;
-    t = sources::signs32(t, bench::predicated(16, false, 0), 0);
-    t = sources::signs32(t, bench::predicated(32, false, 3), 96);
-    t = sources::signs64(t, bench::predicated(16, true, 0), 0);
-    t = sources::signs64(t, bench::predicated(32, true, 7), 224);
-    t = ramps(t);
-    t = activity32(t, bench::predicated(16, false, 0), 16 * 4);
-    t = activity32(t, bench::predicated(32, false, 0), 32 * 4);
-    t = activity64(t, bench::predicated(16, true, 0), 16 * 8);
-    t = activity64(t, bench::predicated(32, true, 0), 32 * 8);
-    t = empty(t, bench::predicated(16, false, 0));
-    t = empty(t, bench::predicated(32, true, 0));
-    t = wraps(t, bench::predicated(16, false, 0), 4, 0xffff_ffff);
-    t = wraps(t, bench::predicated(32, false, 0), 4, 0xffff_ffff);
-    t = wraps(t, bench::predicated(16, true, 0), 8, 0xffff_ffff_ffff_ffff);
-    t = wraps(t, bench::predicated(32, true, 0), 8, 0xffff_ffff_ffff_ffff);
-    t = rows(t);
-    t = overlap(t, 16);
-    overlap(t, 32)
+pub(crate) fn all(t: &mut Tally) {
+    sources::signs32(t, bench::predicated(16, false, 0), 0);
+    sources::signs32(t, bench::predicated(32, false, 3), 96);
+    sources::signs64(t, bench::predicated(16, true, 0), 0);
+    sources::signs64(t, bench::predicated(32, true, 7), 224);
+    ramps(t);
+    activity32(t, bench::predicated(16, false, 0), 16 * 4);
+    activity32(t, bench::predicated(32, false, 0), 32 * 4);
+    activity64(t, bench::predicated(16, true, 0), 16 * 8);
+    activity64(t, bench::predicated(32, true, 0), 32 * 8);
+    empty(t, bench::predicated(16, false, 0));
+    empty(t, bench::predicated(32, true, 0));
+    wraps(t, bench::predicated(16, false, 0), 4, 0xffff_ffff);
+    wraps(t, bench::predicated(32, false, 0), 4, 0xffff_ffff);
+    wraps(t, bench::predicated(16, true, 0), 8, 0xffff_ffff_ffff_ffff);
+    wraps(t, bench::predicated(32, true, 0), 8, 0xffff_ffff_ffff_ffff);
+    rows(t);
+    overlap(t, 16);
+    overlap(t, 32);
 }
 
 // Places of elements in ZA; the figures are those of `ramp`.
-fn ramps(t: Tally) -> Tally {
-    let mut t = t;
+fn ramps(t: &mut Tally) {
     // ZA1.S (2, 3) at VB 16: row 2·4 + 1 = 9 of ZA, 9·16 + 3·4 = 156
-    t = sources::ramp(t, bench::predicated(16, false, 1), 156, 0x26, 0x36, 0x206);
+    sources::ramp(t, bench::predicated(16, false, 1), 156, 0x26, 0x36, 0x206);
     // ZA3.S (7, 5) at VB 32: row 31, 31·32 + 5·4 = 1012
-    t = sources::ramp(t, bench::predicated(32, false, 3), 1012, 0x76, 0x56, 0x9ee);
+    sources::ramp(t, bench::predicated(32, false, 3), 1012, 0x76, 0x56, 0x9ee);
     // ZA5.D (1, 1) at VB 16: row 1·8 + 5 = 13, 13·16 + 1·8 = 216
-    t = sources::ramp(t, bench::predicated(16, true, 5), 216, 0x16, 0x16, 0x7e);
+    sources::ramp(t, bench::predicated(16, true, 5), 216, 0x16, 0x16, 0x7e);
     // ZA7.D (3, 2) at VB 32: row 31, 31·32 + 2·8 = 1008
-    sources::ramp(t, bench::predicated(32, true, 7), 1008, 0x36, 0x26, 0x206)
+    sources::ramp(t, bench::predicated(32, true, 7), 1008, 0x36, 0x26, 0x206);
 }
 
 // Runs on registers of 3 and of 5, so that a product is F, with the first two bytes of each predicate, and those again.
@@ -49,26 +47,25 @@ fn run_under(c: Case, pn: u16, pm: u16, za: &mut [u8]) {
     bench::run(c, &z, &p, za);
 }
 
-fn under(t: Tally, c: Case, what: &[u8], pn: u16, pm: u16, byte: usize, expected: u64) -> Tally {
+fn under(t: &mut Tally, c: Case, what: &[u8], pn: u16, pm: u16, byte: usize, expected: u64) {
     let mut za = [0u8; 1024];
     run_under(c, pn, pm, &mut za);
-    figures::element(t, c, what, &za, byte, expected)
+    t.element(c, what, &za, byte, expected);
 }
 
 // Pn 005A: of row 0 products 1 and 3 count, of row 1 products 0 and 2. Pm 00FC: of column 0 products 2 and 3, of column 1
 // all.
-fn activity32(t: Tally, c: Case, row1: usize) -> Tally {
-    let mut t = t;
-    t = under(t, c, b"pn 005a pm 00fc", 0x5a, 0xfc, 0, 0xf);
-    t = under(t, c, b"pn 005a pm 00fc", 0x5a, 0xfc, 4, 0x1e);
-    t = under(t, c, b"pn 005a pm 00fc", 0x5a, 0xfc, row1, 0xf);
-    let s = bench::subtracted(c);
-    under(t, s, b"pn 005a pm 00ff", 0x5a, 0xff, row1, 0xffff_ffe2)
+fn activity32(t: &mut Tally, c: Case, row1: usize) {
+    under(t, c, b"pn 005a pm 00fc", 0x5a, 0xfc, 0, 0xf);
+    under(t, c, b"pn 005a pm 00fc", 0x5a, 0xfc, 4, 0x1e);
+    under(t, c, b"pn 005a pm 00fc", 0x5a, 0xfc, row1, 0xf);
+    let s = c.subtracted();
+    under(t, s, b"pn 005a pm 00ff", 0x5a, 0xff, row1, 0xffff_ffe2);
 }
 
 // Of four products all count, three in row or column 0 under 0453, and one in row or column 1.
-fn activity64(t: Tally, c: Case, row1: usize) -> Tally {
-    activity_of_halfwords(t, c, row1, 8, Sums(0x3c, 0x2d, 0xf))
+fn activity64(t: &mut Tally, c: Case, row1: usize) {
+    activity_of_halfwords(t, c, row1, 8, Sums(0x3c, 0x2d, 0xf));
 }
 
 // What comes to an element where all products count, and under 0453 in row or column 0 and in row or column 1.
@@ -77,43 +74,33 @@ pub struct Sums(pub u64, pub u64, pub u64);
 
 // Bit 2·e governs element e: 5555 is all, AAAA none. Of 0453 bits 0, 4, 6 and 10 are elements 0, 2, 3 and 5, and bit 1 is
 // none.
-pub(crate) fn activity_of_halfwords(
-    t: Tally,
-    c: Case,
-    row1: usize,
-    col1: usize,
-    sums: Sums,
-) -> Tally {
-    let mut t = t;
-    t = under(t, c, b"pn 5555 pm ffff", 0x5555, 0xffff, 0, sums.0);
-    t = under(t, c, b"pn ffff pm 5555", 0xffff, 0x5555, 0, sums.0);
-    t = under(t, c, b"pn aaaa pm ffff", 0xaaaa, 0xffff, 0, 0);
-    t = under(t, c, b"pn ffff pm aaaa", 0xffff, 0xaaaa, 0, 0);
-    t = under(t, c, b"pn 0453 pm ffff", 0x0453, 0xffff, 0, sums.1);
-    t = under(t, c, b"pn 0453 pm ffff", 0x0453, 0xffff, row1, sums.2);
-    under(t, c, b"pn ffff pm 0453", 0xffff, 0x0453, col1, sums.2)
+pub(crate) fn activity_of_halfwords(t: &mut Tally, c: Case, row1: usize, col1: usize, sums: Sums) {
+    under(t, c, b"pn 5555 pm ffff", 0x5555, 0xffff, 0, sums.0);
+    under(t, c, b"pn ffff pm 5555", 0xffff, 0x5555, 0, sums.0);
+    under(t, c, b"pn aaaa pm ffff", 0xaaaa, 0xffff, 0, 0);
+    under(t, c, b"pn ffff pm aaaa", 0xffff, 0xaaaa, 0, 0);
+    under(t, c, b"pn 0453 pm ffff", 0x0453, 0xffff, 0, sums.1);
+    under(t, c, b"pn 0453 pm ffff", 0x0453, 0xffff, row1, sums.2);
+    under(t, c, b"pn ffff pm 0453", 0xffff, 0x0453, col1, sums.2);
 }
 
 // One predicate empty: no byte of the 1,024 changes.
-fn empty(t: Tally, c: Case) -> Tally {
-    let mut t = t;
+fn empty(t: &mut Tally, c: Case) {
     let mut za = [0x11; 1024];
     run_under(c, 0, 0xffff, &mut za);
-    t = figures::bytes(
-        t,
+    t.bytes(
         c,
         b"pn 0000 pm ffff, bytes kept",
         figures::count_of(&za, 0x11),
         0x400,
     );
     run_under(c, 0xffff, 0, &mut za);
-    figures::bytes(
-        t,
+    t.bytes(
         c,
         b"pn ffff pm 0000, bytes kept",
         figures::count_of(&za, 0x11),
         0x400,
-    )
+    );
 }
 
 // Sources of ones of which the first elements alone are active: 1 comes to element (0, 0), and to no other.
@@ -128,69 +115,58 @@ fn one_more(c: Case, za: &mut [u8]) {
 }
 
 // All ones plus 1 is 0, and 0 minus 1 is all ones again; no other byte of ZA changes.
-pub(crate) fn wraps(t: Tally, c: Case, size: usize, ones: u64) -> Tally {
-    let mut t = t;
+pub(crate) fn wraps(t: &mut Tally, c: Case, size: usize, ones: u64) {
     let mut za = [0xff; 1024];
     one_more(c, &mut za);
-    t = figures::element(t, c, b"ones plus 1", &za, 0, 0);
-    t = figures::element(t, c, b"ones plus 1", &za, size, ones);
-    t = figures::bytes(
-        t,
+    t.element(c, b"ones plus 1", &za, 0, 0);
+    t.element(c, b"ones plus 1", &za, size, ones);
+    t.bytes(
         c,
         b"ones plus 1, bytes cleared",
         figures::count_of(&za, 0),
         size as u64,
     );
-    let s = bench::subtracted(c);
+    let s = c.subtracted();
     one_more(s, &mut za);
-    t = figures::element(t, s, b"0 minus 1", &za, 0, ones);
-    figures::bytes(
-        t,
-        s,
-        b"0 minus 1, bytes cleared",
-        figures::count_of(&za, 0),
-        0,
-    )
+    t.element(s, b"0 minus 1", &za, 0, ones);
+    t.bytes(s, b"0 minus 1, bytes cleared", figures::count_of(&za, 0), 0);
 }
 
 // ZA1.S at VB 16 has rows 1, 5, 9 and 13 of ZA, 64 bytes; the rows beside them stay.
-fn rows(t: Tally) -> Tally {
+fn rows(t: &mut Tally) {
     let mut za = [0u8; 1024];
-    let c = bench::with_signs(bench::predicated(16, false, 1), false, true);
+    let c = bench::predicated(16, false, 1).with_signs(false, true);
     bench::run(c, &[0xff; 1024], &[0xff; 64], &mut za);
-    row_ends(t, c, &za)
+    row_ends(t, c, &za);
 }
 
-fn row_ends(t: Tally, c: Case, za: &[u8]) -> Tally {
-    let mut t = t;
-    t = figures::element(t, c, b"all ff", za, 12, 0);
-    t = figures::element(t, c, b"all ff", za, 16, 0xffff_fc04);
-    t = figures::element(t, c, b"all ff", za, 28, 0xffff_fc04);
-    t = figures::element(t, c, b"all ff", za, 32, 0);
-    t = figures::element(t, c, b"all ff", za, 208, 0xffff_fc04);
-    figures::bytes(
-        t,
+fn row_ends(t: &mut Tally, c: Case, za: &[u8]) {
+    t.element(c, b"all ff", za, 12, 0);
+    t.element(c, b"all ff", za, 16, 0xffff_fc04);
+    t.element(c, b"all ff", za, 28, 0xffff_fc04);
+    t.element(c, b"all ff", za, 32, 0);
+    t.element(c, b"all ff", za, 208, 0xffff_fc04);
+    t.bytes(
         c,
         b"all ff, bytes left 0",
         figures::count_of(za, 0),
         1024 - 64,
-    )
+    );
 }
 
 // ZA0.D (0, 0) at 00000000FFFFFFFF shares its bytes with ZA0.S (0, 0) and (0, 1): the 32-bit sum drops its carry, the
 // 64-bit one keeps it.
-fn overlap(t: Tally, vb: usize) -> Tally {
-    let mut t = t;
+fn overlap(t: &mut Tally, vb: usize) {
     let s = bench::predicated(vb, false, 0);
     let d = bench::predicated(vb, true, 0);
     let mut za = [0u8; 1024];
     bench::set_row(&mut za, 4, 0, 0xff, 0xff);
     one_more(s, &mut za);
     one_more(d, &mut za);
-    t = figures::element(t, d, b"after za0.s", &za, 0, 1);
+    t.element(d, b"after za0.s", &za, 0, 1);
     bench::set_row(&mut za, 4, 0, 0xff, 0xff);
     bench::set_row(&mut za, 4, 1, 0, 0);
     one_more(d, &mut za);
     one_more(s, &mut za);
-    figures::element(t, d, b"before za0.s", &za, 0, 0x1_0000_0001)
+    t.element(d, b"before za0.s", &za, 0, 0x1_0000_0001);
 }

@@ -1,7 +1,7 @@
 // The quarter-tile family (document 003).
 use crate::bench::Case;
 use crate::figures::Tally;
-use crate::{bench, figures, sources};
+use crate::{bench, sources};
 
 // Where the upper right, the lower left and the lower right quarter of tile 0 start in ZA.
 #[derive(Clone, Copy)]
@@ -11,30 +11,28 @@ pub struct Corners(pub usize, pub usize, pub usize);
 #[derive(Clone, Copy)]
 pub struct Quarters(pub u64, pub u64, pub u64, pub u64);
 
-pub(crate) fn all(t: Tally) -> Tally {
-    let mut t = t;
-    t = sources::signs32(t, bench::quarter(16, false), 0);
-    t = sources::signs32(t, bench::quarter(32, false), 0);
-    t = sources::signs64(t, bench::quarter(16, true), 0);
-    t = sources::signs64(t, bench::quarter(32, true), 0);
-    t = ramps(t);
+pub(crate) fn all(t: &mut Tally) {
+    sources::signs32(t, bench::quarter(16, false), 0);
+    sources::signs32(t, bench::quarter(32, false), 0);
+    sources::signs64(t, bench::quarter(16, true), 0);
+    sources::signs64(t, bench::quarter(32, true), 0);
+    ramps(t);
     // Half of 4 rows and columns of 4 bytes, of 8, and of 2 and of 4 of 8 bytes
-    t = pairs(t, bench::quarter(16, false), Corners(8, 128, 136));
-    t = pairs(t, bench::quarter(32, false), Corners(16, 512, 528));
-    t = pairs(t, bench::quarter(16, true), Corners(8, 128, 136));
-    t = pairs(t, bench::quarter(32, true), Corners(16, 512, 528));
-    inner_corners(t)
+    pairs(t, bench::quarter(16, false), Corners(8, 128, 136));
+    pairs(t, bench::quarter(32, false), Corners(16, 512, 528));
+    pairs(t, bench::quarter(16, true), Corners(8, 128, 136));
+    pairs(t, bench::quarter(32, true), Corners(16, 512, 528));
+    inner_corners(t);
 }
 
 // Element numbers run over the whole tile: the figures are those of the predicated forms.
-fn ramps(t: Tally) -> Tally {
-    let mut t = t;
+fn ramps(t: &mut Tally) {
     // ZA0.S (2, 3) at VB 16: row 8 of ZA, 8·16 + 3·4 = 140; (7, 5) at VB 32: 28·32 + 5·4 = 916
-    t = sources::ramp(t, bench::quarter(16, false), 140, 0x26, 0x36, 0x206);
-    t = sources::ramp(t, bench::quarter(32, false), 916, 0x76, 0x56, 0x9ee);
+    sources::ramp(t, bench::quarter(16, false), 140, 0x26, 0x36, 0x206);
+    sources::ramp(t, bench::quarter(32, false), 916, 0x76, 0x56, 0x9ee);
     // ZA0.D (1, 1) at VB 16: row 8 of ZA, 8·16 + 8 = 136; (3, 2) at VB 32: 24·32 + 2·8 = 784
-    t = sources::ramp(t, bench::quarter(16, true), 136, 0x16, 0x16, 0x7e);
-    sources::ramp(t, bench::quarter(32, true), 784, 0x36, 0x26, 0x206)
+    sources::ramp(t, bench::quarter(16, true), 136, 0x16, 0x16, 0x7e);
+    sources::ramp(t, bench::quarter(32, true), 784, 0x36, 0x26, 0x206);
 }
 
 // Registers 2 and 3 hold ones and twos, 18 and 19 threes and fives.
@@ -48,9 +46,9 @@ fn run(c: Case, za: &mut [u8]) {
 }
 
 // Four times 1·3 = C, 2·3 = 18, 1·5 = 14 and 2·5 = 28.
-fn pairs(t: Tally, c: Case, at: Corners) -> Tally {
+fn pairs(t: &mut Tally, c: Case, at: Corners) {
     let sums = Quarters(0xc, 0x18, 0x14, 0x28);
-    register_forms(t, c, at, sums, negated(c.wide))
+    register_forms(t, c, at, sums, negated(c.wide));
 }
 
 // -C, -18, -14 and -28 in 32 and in 64 bits.
@@ -69,41 +67,38 @@ fn negated(wide: bool) -> Quarters {
 // Two pairs, added and subtracted, and single registers: the first source's goes by the column half, the second's by the row
 // half, and a source of one register has it in both.
 pub(crate) fn register_forms(
-    t: Tally,
+    t: &mut Tally,
     c: Case,
     at: Corners,
     sums: Quarters,
     negated: Quarters,
-) -> Tally {
-    let mut t = t;
-    let both = bench::with_pairs(c, true, true);
-    let first = bench::with_pairs(c, true, false);
-    let second = bench::with_pairs(c, false, true);
-    t = each_quarter(t, both, at, sums);
-    t = each_quarter(t, first, at, Quarters(sums.0, sums.1, sums.0, sums.1));
-    t = each_quarter(t, second, at, Quarters(sums.0, sums.0, sums.2, sums.2));
-    t = each_quarter(t, c, at, Quarters(sums.0, sums.0, sums.0, sums.0));
-    each_quarter(t, bench::subtracted(both), at, negated)
+) {
+    let both = c.with_pairs(true, true);
+    let first = c.with_pairs(true, false);
+    let second = c.with_pairs(false, true);
+    each_quarter(t, both, at, sums);
+    each_quarter(t, first, at, Quarters(sums.0, sums.1, sums.0, sums.1));
+    each_quarter(t, second, at, Quarters(sums.0, sums.0, sums.2, sums.2));
+    each_quarter(t, c, at, Quarters(sums.0, sums.0, sums.0, sums.0));
+    each_quarter(t, both.subtracted(), at, negated);
 }
 
-fn each_quarter(t: Tally, c: Case, at: Corners, expected: Quarters) -> Tally {
-    let mut t = t;
+fn each_quarter(t: &mut Tally, c: Case, at: Corners, expected: Quarters) {
     let mut za = [0u8; 1024];
     run(c, &mut za);
-    t = figures::element(t, c, b"1 or 2 by 3 or 5", &za, 0, expected.0);
-    t = figures::element(t, c, b"1 or 2 by 3 or 5", &za, at.0, expected.1);
-    t = figures::element(t, c, b"1 or 2 by 3 or 5", &za, at.1, expected.2);
-    figures::element(t, c, b"1 or 2 by 3 or 5", &za, at.2, expected.3)
+    t.element(c, b"1 or 2 by 3 or 5", &za, 0, expected.0);
+    t.element(c, b"1 or 2 by 3 or 5", &za, at.0, expected.1);
+    t.element(c, b"1 or 2 by 3 or 5", &za, at.1, expected.2);
+    t.element(c, b"1 or 2 by 3 or 5", &za, at.2, expected.3);
 }
 
 // Where the quarters of ZA0.S meet at VB 16: (1, 1), (1, 2), (2, 1) and (2, 2), in rows 4 and 8 of ZA.
-fn inner_corners(t: Tally) -> Tally {
-    let mut t = t;
+fn inner_corners(t: &mut Tally) {
     let mut za = [0u8; 1024];
-    let c = bench::with_pairs(bench::quarter(16, false), true, true);
+    let c = bench::quarter(16, false).with_pairs(true, true);
     run(c, &mut za);
-    t = figures::element(t, c, b"1 or 2 by 3 or 5", &za, 4 * 16 + 4, 0xc);
-    t = figures::element(t, c, b"1 or 2 by 3 or 5", &za, 4 * 16 + 8, 0x18);
-    t = figures::element(t, c, b"1 or 2 by 3 or 5", &za, 8 * 16 + 4, 0x14);
-    figures::element(t, c, b"1 or 2 by 3 or 5", &za, 8 * 16 + 8, 0x28)
+    t.element(c, b"1 or 2 by 3 or 5", &za, 4 * 16 + 4, 0xc);
+    t.element(c, b"1 or 2 by 3 or 5", &za, 4 * 16 + 8, 0x18);
+    t.element(c, b"1 or 2 by 3 or 5", &za, 8 * 16 + 4, 0x14);
+    t.element(c, b"1 or 2 by 3 or 5", &za, 8 * 16 + 8, 0x28);
 }

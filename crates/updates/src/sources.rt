@@ -1,116 +1,86 @@
 // What both families add from sources that all elements, or all of a row or column, have alike.
+use crate::bench;
 use crate::bench::Case;
 use crate::figures::Tally;
-use crate::{bench, figures};
 
 // All bytes FF: four times (-1)(-1) = 1, (-1)255 or 255(-1) = -FF, 255·255 = FE01; subtracted, the negatives.
-pub(crate) fn signs32(t: Tally, c: Case, byte: usize) -> Tally {
-    let mut t = t;
-    t = all_ff(t, c, byte, 0x4);
-    t = all_ff(t, bench::with_signs(c, false, true), byte, 0xffff_fc04);
-    t = all_ff(t, bench::with_signs(c, true, false), byte, 0xffff_fc04);
-    t = all_ff(t, bench::with_signs(c, true, true), byte, 0x3_f804);
-    let s = bench::subtracted(c);
-    t = all_ff(t, s, byte, 0xffff_fffc);
-    t = all_ff(t, bench::with_signs(s, false, true), byte, 0x3fc);
-    t = all_ff(t, bench::with_signs(s, true, false), byte, 0x3fc);
-    t = all_ff(t, bench::with_signs(s, true, true), byte, 0xfffc_07fc);
-    one_sign32(t, c, byte)
+pub(crate) fn signs32(t: &mut Tally, c: Case, byte: usize) {
+    all_ff(t, c, byte, 0x4);
+    all_ff(t, c.with_signs(false, true), byte, 0xffff_fc04);
+    all_ff(t, c.with_signs(true, false), byte, 0xffff_fc04);
+    all_ff(t, c.with_signs(true, true), byte, 0x3_f804);
+    let s = c.subtracted();
+    all_ff(t, s, byte, 0xffff_fffc);
+    all_ff(t, s.with_signs(false, true), byte, 0x3fc);
+    all_ff(t, s.with_signs(true, false), byte, 0x3fc);
+    all_ff(t, s.with_signs(true, true), byte, 0xfffc_07fc);
+    one_sign32(t, c, byte);
 }
 
 // First source FF, second 02: four times (-1)2 = -2 or 255·2 = 1FE.
-fn one_sign32(t: Tally, c: Case, byte: usize) -> Tally {
-    let mut t = t;
-    t = ff_by_2(t, c, byte, 0xffff_fff8);
-    t = ff_by_2(t, bench::with_signs(c, false, true), byte, 0xffff_fff8);
-    t = ff_by_2(t, bench::with_signs(c, true, false), byte, 0x7f8);
-    ff_by_2(
-        t,
-        bench::with_signs(bench::subtracted(c), true, true),
-        byte,
-        0xffff_f808,
-    )
+fn one_sign32(t: &mut Tally, c: Case, byte: usize) {
+    ff_by_2(t, c, byte, 0xffff_fff8);
+    ff_by_2(t, c.with_signs(false, true), byte, 0xffff_fff8);
+    ff_by_2(t, c.with_signs(true, false), byte, 0x7f8);
+    ff_by_2(t, c.subtracted().with_signs(true, true), byte, 0xffff_f808);
 }
 
 // All halfwords FFFF: four times 1, -FFFF or FFFF·FFFF = FFFE0001; subtracted, the negatives.
-pub(crate) fn signs64(t: Tally, c: Case, byte: usize) -> Tally {
-    let mut t = t;
-    t = all_ff(t, c, byte, 0x4);
-    t = all_ff(
-        t,
-        bench::with_signs(c, false, true),
-        byte,
-        0xffff_ffff_fffc_0004,
-    );
-    t = all_ff(
-        t,
-        bench::with_signs(c, true, false),
-        byte,
-        0xffff_ffff_fffc_0004,
-    );
-    t = all_ff(t, bench::with_signs(c, true, true), byte, 0x3_fff8_0004);
-    let s = bench::subtracted(c);
-    t = all_ff(t, s, byte, 0xffff_ffff_ffff_fffc);
-    t = all_ff(t, bench::with_signs(s, false, true), byte, 0x3_fffc);
-    t = all_ff(t, bench::with_signs(s, true, false), byte, 0x3_fffc);
-    t = all_ff(
-        t,
-        bench::with_signs(s, true, true),
-        byte,
-        0xffff_fffc_0007_fffc,
-    );
-    one_sign64(t, c, byte)
+pub(crate) fn signs64(t: &mut Tally, c: Case, byte: usize) {
+    all_ff(t, c, byte, 0x4);
+    all_ff(t, c.with_signs(false, true), byte, 0xffff_ffff_fffc_0004);
+    all_ff(t, c.with_signs(true, false), byte, 0xffff_ffff_fffc_0004);
+    all_ff(t, c.with_signs(true, true), byte, 0x3_fff8_0004);
+    let s = c.subtracted();
+    all_ff(t, s, byte, 0xffff_ffff_ffff_fffc);
+    all_ff(t, s.with_signs(false, true), byte, 0x3_fffc);
+    all_ff(t, s.with_signs(true, false), byte, 0x3_fffc);
+    all_ff(t, s.with_signs(true, true), byte, 0xffff_fffc_0007_fffc);
+    one_sign64(t, c, byte);
 }
 
 // First source FFFF, second 0202: four times (-1)514 = -202 or 65535·514 = 201FDFE.
-fn one_sign64(t: Tally, c: Case, byte: usize) -> Tally {
-    let mut t = t;
-    t = ff_by_2(t, c, byte, 0xffff_ffff_ffff_f7f8);
-    t = ff_by_2(
-        t,
-        bench::with_signs(c, false, true),
-        byte,
-        0xffff_ffff_ffff_f7f8,
-    );
-    t = ff_by_2(t, bench::with_signs(c, true, false), byte, 0x807_f7f8);
+fn one_sign64(t: &mut Tally, c: Case, byte: usize) {
+    ff_by_2(t, c, byte, 0xffff_ffff_ffff_f7f8);
+    ff_by_2(t, c.with_signs(false, true), byte, 0xffff_ffff_ffff_f7f8);
+    ff_by_2(t, c.with_signs(true, false), byte, 0x807_f7f8);
     ff_by_2(
         t,
-        bench::with_signs(bench::subtracted(c), true, true),
+        c.subtracted().with_signs(true, true),
         byte,
         0xffff_ffff_f7f8_0808,
-    )
+    );
 }
 
-pub(crate) fn all_ff(t: Tally, c: Case, byte: usize, expected: u64) -> Tally {
+pub(crate) fn all_ff(t: &mut Tally, c: Case, byte: usize, expected: u64) {
     after(t, c, b"all ff", &[0xff; 1024], byte, expected)
 }
 
-pub(crate) fn ff_by_2(t: Tally, c: Case, byte: usize, expected: u64) -> Tally {
+pub(crate) fn ff_by_2(t: &mut Tally, c: Case, byte: usize, expected: u64) {
     let mut z = [0xff; 1024];
     bench::set_row(&mut z, c.vb, bench::second_register(c), 2, 2);
-    after(t, c, b"ff by 02", &z, byte, expected)
+    after(t, c, b"ff by 02", &z, byte, expected);
 }
 
 // First source 0, 1, 2, .., second ones: 4·row + k over k is 16·row + 6; the other way round 16·col + 6; both ramps
 // (4·row + k)(4·col + k) over k: 64·row·col + 24·row + 24·col + 14. Of two products, 4·row + 1, 4·col + 1 and
 // 8·row·col + 2·row + 2·col + 1.
-pub(crate) fn ramp(t: Tally, c: Case, byte: usize, first: u64, second: u64, both: u64) -> Tally {
-    let mut t = t;
+pub(crate) fn ramp(t: &mut Tally, c: Case, byte: usize, first: u64, second: u64, both: u64) {
     let mut z = [0u8; 1024];
     let n = bench::first_register(c);
     let m = bench::second_register(c);
     bench::set_ramp(&mut z, c, n);
     bench::set_elements(&mut z, c, m, 1);
-    t = after(t, c, b"ramp by ones", &z, byte, first);
+    after(t, c, b"ramp by ones", &z, byte, first);
     bench::set_ramp(&mut z, c, m);
-    t = after(t, c, b"ramp by ramp", &z, byte, both);
+    after(t, c, b"ramp by ramp", &z, byte, both);
     bench::set_elements(&mut z, c, n, 1);
-    after(t, c, b"ones by ramp", &z, byte, second)
+    after(t, c, b"ones by ramp", &z, byte, second);
 }
 
 // A tile element after a run on zeros, all elements active.
-pub(crate) fn after(t: Tally, c: Case, what: &[u8], z: &[u8], byte: usize, expected: u64) -> Tally {
+pub(crate) fn after(t: &mut Tally, c: Case, what: &[u8], z: &[u8], byte: usize, expected: u64) {
     let mut za = [0u8; 1024];
     bench::run(c, z, &[0xff; 64], &mut za);
-    figures::element(t, c, what, &za, byte, expected)
+    t.element(c, what, &za, byte, expected);
 }

@@ -1,7 +1,7 @@
 // The updates that are compared: what the number of a case says, and what is drawn for it.
 ghost use Rattle.std.specs.Prelude.{◌<◌};
 ghost use Rattle.outer.specs.Products.{Shaped, GoodPredication, GoodOperand};
-ghost use Rattle.walks.specs.Room.{Room, Drawn, Updatable};
+ghost use Rattle.walks.specs.Room.{Room, Drawn};
 
 use checks::{Fill, generate, next};
 use isa::{Predicate, Tile, Vector};
@@ -65,9 +65,9 @@ pub(crate) fn draw(
 
 // Its own for each kind of one length.
 fn seed_of(kind: Kind, n: u32) -> u32 {
-    let seed = std::num::wrapping_add_u32(n, shape_seed(kind));
+    let seed = n.wrapping_add(shape_seed(kind));
     if kind.quarter {
-        std::num::wrapping_add_u32(seed, 2000)
+        seed.wrapping_add(2000)
     } else {
         seed
     }
@@ -100,10 +100,10 @@ fn fill_of(n: u32) -> Fill {
 // Sets about a quarter, a half or three quarters of the predicates' bits, or all.
 fn draw_predicates(x: u32, quarters: u32, p: &mut [u8]) -> u32 {
     let mut x = x;
-    for i in 0..p.len() {
+    for byte in p.iter_mut() {
         let y = next(x);
         x = next(y);
-        p[i] = predicate_byte(quarters, byte_of(y), byte_of(x));
+        *byte = predicate_byte(quarters, byte_of(y), byte_of(x));
     }
     x
 }
@@ -180,17 +180,5 @@ fn operand(low: u32, high: u32, predication: Predication, unsigned: bool) -> Ope
         high: Vector(high),
         predication,
         unsigned,
-    }
-}
-
-// Updates by one walk or the other.
-pub(crate) fn walk(plainly: bool, vb: usize, o: OuterProduct, z: &[u8], p: &[u8], za: &mut [u8])
-    requires { Updatable vb o z.now p.now za.old }
-    ensures { Updatable vb o z.now p.now za.new }
-{
-    if plainly {
-        outer::update_plainly(vb, o, z, p, za);
-    } else {
-        outer::update(vb, o, z, p, za);
     }
 }

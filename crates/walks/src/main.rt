@@ -13,13 +13,13 @@ mod times;
 use cases::{CASES, Kind};
 use checks::STDOUT_FILENO;
 use outer::OuterProduct;
-use tally::{Tally, added, write_tally};
+use tally::Tally;
 
 fn main(rt: HostRuntime) {
     let short = tally_at(&rt, 16);
     let long = tally_at(&rt, 256);
     io::write_all(STDOUT_FILENO, b"in all");
-    write_tally(added(short, long));
+    short.added(long).write();
 }
 
 // Both families.
@@ -28,41 +28,29 @@ fn tally_at(rt: &HostRuntime, vb: usize) -> Tally
 {
     let predicated = tally_family(rt, vb, false);
     let quarter = tally_family(rt, vb, true);
-    added(predicated, quarter)
+    predicated.added(quarter)
 }
 
 // Every shape that there is.
 fn tally_family(rt: &HostRuntime, vb: usize, quarter: bool) -> Tally
     requires { legal vb ≡ true }
 {
-    let bytes = tally_of(
-        rt,
-        Kind {
-            vb,
-            element: 4,
-            products: 4,
-            quarter,
-        },
-    );
-    let halves = tally_of(
-        rt,
-        Kind {
-            vb,
-            element: 8,
-            products: 4,
-            quarter,
-        },
-    );
+    let kind = Kind {
+        vb,
+        element: 4,
+        products: 4,
+        quarter,
+    };
+    let bytes = tally_of(rt, kind);
+    let halves = tally_of(rt, Kind { element: 8, ..kind });
     let two_way = tally_of(
         rt,
         Kind {
-            vb,
-            element: 4,
             products: 2,
-            quarter,
+            ..kind
         },
     );
-    added(added(bytes, halves), two_way)
+    bytes.added(halves).added(two_way)
 }
 
 // Makes room for Z, P and ZA: for either walk, and as it begins.
@@ -86,7 +74,7 @@ fn tally_of(rt: &HostRuntime, kind: Kind) -> Tally
         &mut start[..size],
     );
     cases::write_kind(STDOUT_FILENO, kind);
-    write_tally(t);
+    t.write();
     t
 }
 
@@ -101,9 +89,9 @@ fn tally_cases(
 ) -> Tally
     requires { Room kind z.old p.old za.old plain.old start.old }
 {
-    let mut t = tally::none();
+    let mut t = Tally::default();
     for n in 0..CASES {
-        t = added(t, tally_case(rt, kind, n, z, p, za, plain, start));
+        t = t.added(tally_case(rt, kind, n, z, p, za, plain, start));
     }
     t
 }
@@ -159,7 +147,7 @@ fn compare(
     ensures still_updatable { Updatable vb o z.now p.now za.new }
     ensures same_len { length plain.new ≡ length za.new }
 {
-    cases::walk(false, vb, o, z, p, za);
-    cases::walk(true, vb, o, z, p, plain);
-    tally::tally_bytes(za, plain, start)
+    outer::update(vb, o, z, p, za);
+    outer::update_plainly(vb, o, z, p, plain);
+    Tally::of_bytes(za, plain, start)
 }

@@ -29,8 +29,8 @@ pub(crate) fn take_times(
     }
     let vb = kind.vb;
     let updates = round_updates(vb);
-    let time = best(rt, updates, false, vb, o, z, p, za);
-    let plain_time = best(rt, updates, true, vb, o, z, p, plain);
+    let time = best(rt, updates, || outer::update(vb, o, z, p, za));
+    let plain_time = best(rt, updates, || outer::update_plainly(vb, o, z, p, plain));
     cases::write_kind(STDERR_FILENO, kind);
     io::write_all(STDERR_FILENO, b": update ");
     write_time(time, updates);
@@ -59,42 +59,18 @@ fn write_time(microseconds: u64, updates: u64)
 }
 
 // The microseconds of the best round.
-fn best(
-    rt: &HostRuntime,
-    updates: u64,
-    plainly: bool,
-    vb: usize,
-    o: OuterProduct,
-    z: &[u8],
-    p: &[u8],
-    za: &mut [u8],
-) -> u64
-    requires { Updatable vb o z.now p.now za.old }
+fn best<F: FnMut()>(rt: &HostRuntime, updates: u64, mut update: F) -> u64
+    requires { F.IsAlwaysCallable update }
 {
-    let mut least = round(rt, updates, plainly, vb, o, z, p, za);
-    for _ in 1..ROUNDS {
-        least = lesser(least, round(rt, updates, plainly, vb, o, z, p, za));
+    let mut least = u64::MAX;
+    for _ in 0..ROUNDS {
+        let begun = microseconds(rt);
+        for _ in 0..updates {
+            update();
+        }
+        least = least.min(microseconds(rt).wrapping_sub(begun));
     }
     least
-}
-
-fn round(
-    rt: &HostRuntime,
-    updates: u64,
-    plainly: bool,
-    vb: usize,
-    o: OuterProduct,
-    z: &[u8],
-    p: &[u8],
-    za: &mut [u8],
-) -> u64
-    requires { Updatable vb o z.now p.now za.old }
-{
-    let begun = microseconds(rt);
-    for _ in 0..updates {
-        cases::walk(plainly, vb, o, z, p, za);
-    }
-    std::num::wrapping_sub_u64(microseconds(rt), begun)
 }
 
 // The processor time so far, 0 if it can't be had.
@@ -108,8 +84,4 @@ fn microseconds(rt: &HostRuntime) -> u64 {
         }
         Err(_) => 0,
     }
-}
-
-fn lesser(a: u64, b: u64) -> u64 {
-    if a < b { a } else { b }
 }

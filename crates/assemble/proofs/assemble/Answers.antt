@@ -1,50 +1,28 @@
--- `assemble::assemble` meets its contract: a turn counts a line more, and behind the last there is none. Assumes nothing.
-use Rattle.std.proofs.Common.{◌≡◌, ◌∙◌, sym, List, ℕ, ◌+◌, ◌-◌, ◌≤◌, ◌<◌, arith, length, take, drop}
-use Rattle.checks.specs.Text.{field_length}
-use Rattle.assemble.specs.Kernel.{Assembled, lines, assembled, words_after, refused_after, count_over}
-use Rattle.assemble.proofs.Kernel.{count_line, count_end}
-use Rattle.assemble.proofs.assemble.Invariants.{Whole}
+-- `assemble::assemble` meets its contract: a turn counts a line more, and the parts that are cut make what the lines do. Assumes nothing.
+use Rattle.std.proofs.Common.{◌∙◌, ap, sym, refl, ℕ, List, rules, tests}
+use Rattle.std.proofs.lemmas.Iterator.Consumers.{YieldsList-end}
+use Rattle.std.proofs.lemmas.Iterator.Splits.{YieldsList-from_slice_split}
+use denote.Ref.{Bor}
+use Rattle.assemble.specs.Kernel.{assembled, words_after, refused_after, count_over}
+use Rattle.assemble.proofs.Kernel.{is_feed, count_push, count_cut}
 use Rattle.assemble.proofs.assemble.Goals as goal
 
-pub loop-at-init : goal.loop-at-init
-loop-at-init c = (omega arith, rw c.none-counts.ensures.0, rw c.none-counts.ensures.1)
-
--- a turn counts the line that ends at `end`
-counted : (f : ℕ → Assembled → ℕ) (n m : ℕ) (text : List ℕ) (at end : ℕ) → at < length text → end ≡ at + field_length 10 (drop at text)
-    → m ≡ f n (assembled (take (end - at) (drop at text))) → Whole f text at n → Whole f text (end + 1) m
-counted f n m text at end h e p q = count_line f n m text at end h e p ∙ q
-
--- where no line is left, what was counted is all
-all_counted : (f : ℕ → Assembled → ℕ) (text : List ℕ) (at n : ℕ) → length text ≤ at → Whole f text at n → n ≡ count_over f 0 (lines text)
-all_counted f text at n h p = sym (count_end f n text at h) ∙ p
-
-pub returns-then-end-text : goal.returns-then-end-text
-returns-then-end-text c =
-    let t = c.args.text.now in
-    let e = c.field_end-end in
-    let l = c.loop-at in
-    let k = c.take_line-counts in
-    record {
-      words = all_counted words_after t (e.result + 1) _ (omega arith) (counted words_after _ _ t l.at e.result (omega arith) e.ensures.answer k.ensures.words l.invariant.1);
-      refused = all_counted refused_after t (e.result + 1) _ (omega arith) (counted refused_after _ _ t l.at e.result (omega arith) e.ensures.answer k.ensures.refused l.invariant.2);
-    }
-
-pub loop-at-preserved : goal.loop-at-preserved
-loop-at-preserved c =
-    let t = c.args.text.now in
-    let e = c.field_end-end in
-    let l = c.loop-at in
-    let k = c.take_line-counts in (
-      omega arith,
-      counted words_after _ _ t l.at e.result (omega arith) e.ensures.answer k.ensures.words l.invariant.1,
-      counted refused_after _ _ t l.at e.result (omega arith) e.ensures.answer k.ensures.refused l.invariant.2,
+pub loop-line-preserved : goal.loop-line-preserved
+loop-line-preserved c =
+    let l = c.loop-line in
+    let line = c.in-Some.line in
+    let k = c.take_line-counts.ensures in
+    let text = λ (x : Bor (List ℕ)). x.now in (
+      k.words ∙ ap (λ (n : ℕ). words_after n (assembled line.now)) l.invariant.0 ∙ sym (count_push text words_after 0 l.yielded line),
+      k.refused ∙ ap (λ (n : ℕ). refused_after n (assembled line.now)) l.invariant.1 ∙ sym (count_push text refused_after 0 l.yielded line),
     )
 
 pub returns : goal.returns
 returns c =
+    let l = c.loop-line in
     let t = c.args.text.now in
-    let l = c.loop-at in
+    let parts = YieldsList-end (YieldsList-from_slice_split _ is_feed t (cc) (cc) (cc) (λ x b q k. search (rules, tests))) l.yielded _ l.yielded_by _ _ c.in-None.is c.next.ensures.steps in
     record {
-      words = all_counted words_after t l.at _ (omega arith) l.invariant.1;
-      refused = all_counted refused_after t l.at _ (omega arith) l.invariant.2;
+      words = l.invariant.0 ∙ ap (count_over words_after 0) parts.0 ∙ count_cut words_after (λ n. refl) 0 t;
+      refused = l.invariant.1 ∙ ap (count_over refused_after 0) parts.0 ∙ count_cut refused_after (λ n. refl) 0 t;
     }
