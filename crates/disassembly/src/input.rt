@@ -17,28 +17,30 @@ impl<'a> Model for Input<'a> {
     ghost view = { λ s. pending s.begun ++ s.piece.now };
 }
 
-// How many bytes of a word have come.
-pub(crate) fn count(begun: Begun) -> usize
-    ensures answer { result ≡ length (pending begun) }
-    ensures upper_bound { result ≤ 3 }
-{
-    match begun {
-        Begun::Nothing => 0,
-        Begun::One(_) => 1,
-        Begun::Two(_, _) => 2,
-        Begun::Three(_, _, _) => 3,
+impl Begun {
+    // How many bytes have come.
+    pub(crate) fn count(self) -> usize
+        ensures answer { result ≡ length (pending self) }
+        ensures upper_bound { result ≤ 3 }
+    {
+        match self {
+            Begun::Nothing => 0,
+            Begun::One(_) => 1,
+            Begun::Two(_, _) => 2,
+            Begun::Three(_, _, _) => 3,
+        }
     }
-}
 
-// Those bytes, and 0 for each that has not come.
-fn bytes_of(begun: Begun) -> [u8; 3]
-    ensures { take (length (pending begun)) result ≡ pending begun }
-{
-    match begun {
-        Begun::Nothing => [0, 0, 0],
-        Begun::One(a) => [a, 0, 0],
-        Begun::Two(a, b) => [a, b, 0],
-        Begun::Three(a, b, c) => [a, b, c],
+    // Those bytes, and 0 for each that has not come.
+    fn bytes(self) -> [u8; 3]
+        ensures { take (length (pending self)) result ≡ pending self }
+    {
+        match self {
+            Begun::Nothing => [0, 0, 0],
+            Begun::One(a) => [a, 0, 0],
+            Begun::Two(a, b) => [a, b, 0],
+            Begun::Three(a, b, c) => [a, b, c],
+        }
     }
 }
 
@@ -46,7 +48,7 @@ impl<'a> Input<'a> {
     pub(crate) fn len(&self) -> usize
         ensures { result ≡ length self.now }
     {
-        count(self.begun) + self.piece.len()
+        self.begun.count() + self.piece.len()
     }
 
     // The word whose bytes, the lowest first, stand from i on.
@@ -82,10 +84,10 @@ impl<'a> Input<'a> {
         requires { i < length self.now }
         ensures { result ≡ slice_index self.now i }
     {
-        let n = count(self.begun);
+        let n = self.begun.count();
         if n <= i {
             return self.piece[i - n];
         }
-        bytes_of(self.begun)[i]
+        self.begun.bytes()[i]
     }
 }

@@ -53,8 +53,7 @@ pub fn list(place: Place, piece: &[u8], room: &mut [u8]) -> Advance
     ensures answer { result ≡ list_of place piece.now (length room.old) }
     ensures room_after { room.new ≡ room_listed place piece.now room.old }
 {
-    let begun = place.begun;
-    let most = 4 * (room.len() / LONGEST_LINE) + 3 - input::count(begun);
+    let most = 4 * (room.len() / LONGEST_LINE) + 3 - place.begun.count();
     let taken = piece.len().min(most);
     list_all(place, &piece[..taken], room)
 }
@@ -67,8 +66,7 @@ pub fn finish(place: Place, room: &mut [u8]) -> Result<usize, Refusal>
     ensures missing { missing_beside result ≡ finish_missing place (length room.old) }
     ensures len { value_in result ≡ finish_length place (length room.old) }
 {
-    let begun = place.begun;
-    let n = input::count(begun);
+    let n = place.begun.count();
     if n == 0 {
         return Ok(0);
     }

@@ -11,6 +11,7 @@ use isa::Tile;
 pub use lists::list_of;
 
 // A tile by the bytes of its elements and its number: 2 is .h, 4 is .s, 8 is .d, and 1 is za, all of it.
+// The bytes are a number and no kind: `holds` reckons rows with them, and `digit_of` adds them.
 #[derive(Clone, Copy)]
 pub struct TileName {
     pub bytes: u32,
