@@ -6,9 +6,8 @@ ghost use Rattle.std.specs.Prelude.{◌≡◌, ◌+◌, ◌≤◌, length};
 ghost use Rattle.machine.specs.Lists.{most_words};
 
 use checks::STDOUT_FILENO;
-use isa::{Decoded, Instruction, Refusal};
-use machine::{Bench, Outcome};
-use text::Printed;
+use isa::{Instruction, Refusal};
+use machine::Bench;
 
 // Document 01's flags where it gives none.
 const FLAGS: u32 = 7;
@@ -367,8 +366,8 @@ fn text_of(flags: u32, word: u32) {
     word_name(flags, word);
     let mut room = [0u8; 47];
     match text::print(flags, word, &mut room) {
-        Printed::Length(n) => io::write_all(STDOUT_FILENO, checks::first(&room, n)),
-        Printed::Refused(r) => refused(r),
+        Ok(n) => io::write_all(STDOUT_FILENO, checks::first(&room, n)),
+        Err(r) => refused(r),
     };
     io::write_all(STDOUT_FILENO, b"\n");
 }
@@ -377,28 +376,16 @@ fn text_of(flags: u32, word: u32) {
 fn tile_of(flags: u32, word: u32) {
     word_name(flags, word);
     match isa::decode(flags, word) {
-        Decoded::Accepted(i) => decimal(b"tile ", tile_number(i)),
-        Decoded::Refused(r) => refused(r),
+        Ok(i) => decimal(b"tile ", tile_number(i)),
+        Err(r) => refused(r),
     };
     io::write_all(STDOUT_FILENO, b"\n");
 }
 
 fn tile_number(i: Instruction) -> u64 {
     match i {
-        Instruction::Predicated {
-            op: _,
-            tile,
-            pn: _,
-            pm: _,
-            zn: _,
-            zm: _,
-        } => tile.0 as u64,
-        Instruction::Quarter {
-            op: _,
-            tile,
-            first: _,
-            second: _,
-        } => tile.0 as u64,
+        Instruction::Predicated(p) => p.tile.0 as u64,
+        Instruction::Quarter(q) => q.tile.0 as u64,
         Instruction::Zero(_) => 8,
     }
 }
@@ -456,11 +443,11 @@ fn list_example(name: &[u8], z: &[u8], p: &[u8], words: &[u32]) {
 }
 
 // 0, or the refusal.
-fn answer(before: &[u8], outcome: Outcome) -> bool {
+fn answer(before: &[u8], outcome: Result<(), Refusal>) -> bool {
     io::write_all(STDOUT_FILENO, before);
     match outcome {
-        Outcome::Done => decimal(b"", 0),
-        Outcome::Refused(r) => refused(r),
+        Ok(()) => decimal(b"", 0),
+        Err(r) => refused(r),
     }
 }
 

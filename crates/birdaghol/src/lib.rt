@@ -311,7 +311,7 @@ fn encode(i: Instruction) -> u64
     ensures { result ≡ encode_call (some i) }
 {
     match isa::encode(i) {
-        Ok(w) => w as u64 * AT_VALUE,
+        Ok(word) => word as u64 * AT_VALUE,
         Err(r) => refused(r),
     }
 }

@@ -75,14 +75,7 @@ impl Listing {
         self.lines = self.lines.wrapping_add(1);
         self.bytes = self.bytes.wrapping_add(line.len() as u64);
         self.sum = self.sum.wrapping_add(sum_of(line));
-        self.back = self.back.wrapping_add(u64::from(reads_as(line, word)));
-    }
-}
-
-fn reads_as(line: &[u8], word: u32) -> bool {
-    match reader::read(isa::ALL_FLAGS, line) {
-        Ok(w) => w == word,
-        Err(_) => false,
+        self.back = self.back.wrapping_add(u64::from(reader::read(isa::ALL_FLAGS, line) == Ok(word)));
     }
 }
 

@@ -5,14 +5,7 @@
 
 use checks::{Outcome, STDIN_FILENO, STDOUT_FILENO, Tally};
 use isa::Refusal;
-use reader::Reading;
 use refusals::Sums;
-use text::Printed;
-
-// Document 01's numbers of the refusals that a word of the list can get.
-const UNLISTED: u32 = 7;
-
-const ROOM_TOO_SHORT: u32 = 12;
 
 // What a room holds before it is printed into.
 const FILL: u8 = 0x5A;
@@ -104,8 +97,8 @@ fn word_of(line: &[u8]) -> Option<u32> {
 fn word_outcome(w: u32, listed: &[u8]) -> Outcome {
     let mut room = [FILL; TEXT_ROOM];
     let agrees = match text::print(isa::ALL_FLAGS, w, &mut room) {
-        Printed::Length(n) => text_agrees(w, n, &room, listed),
-        Printed::Refused(refusal) => refusal_agrees(w, refusal, &room, listed),
+        Ok(n) => text_agrees(w, n, &room, listed),
+        Err(refusal) => refusal_agrees(w, refusal, &room, listed),
     };
     if agrees {
         Outcome::Agreed
@@ -145,8 +138,8 @@ fn holds(room: &[u8], n: usize, listed: &[u8]) -> bool {
 fn exact_room_agrees(w: u32, n: usize, listed: &[u8]) -> bool {
     let mut room = [FILL; TEXT_ROOM];
     match print_into(w, n, &mut room) {
-        Printed::Length(m) => holds(&room, m, listed),
-        Printed::Refused(_) => false,
+        Ok(m) => holds(&room, m, listed),
+        Err(_) => false,
     }
 }
 
@@ -157,16 +150,13 @@ fn short_room_refused(w: u32, n: usize) -> bool {
     }
     let mut room = [FILL; TEXT_ROOM];
     match print_into(w, n - 1, &mut room) {
-        Printed::Length(_) => false,
-        Printed::Refused(refusal) => { isa::number(refusal) == ROOM_TOO_SHORT && untouched(&room) }
+        Ok(_) => false,
+        Err(refusal) => refusal == Refusal::Room && untouched(&room),
     }
 }
 
 fn reads_as(line: &[u8], w: u32) -> bool {
-    match reader::read(isa::ALL_FLAGS, line) {
-        Reading::Word(v) => v == w,
-        Reading::Refused(_) => false,
-    }
+    reader::read(isa::ALL_FLAGS, line) == Ok(w)
 }
 
 // Whether a word misses, where no feature is on, exactly those that it misses where each by itself is off, and is printed
@@ -177,10 +167,7 @@ fn features_agree(w: u32) -> bool {
         return false;
     }
     let mut room = [FILL; TEXT_ROOM];
-    match text::print(sum, w, &mut room) {
-        Printed::Length(_) => sum != 0,
-        Printed::Refused(_) => false,
-    }
+    text::print(sum, w, &mut room).is_ok() & (sum != 0)
 }
 
 // The sum over the four features of what is missing where that one is off.
@@ -196,13 +183,13 @@ fn missing_one_by_one(w: u32) -> u64 {
 fn missing(flags: u32, w: u32) -> u32 {
     let mut room = [FILL; TEXT_ROOM];
     match text::print(flags, w, &mut room) {
-        Printed::Length(_) => 0,
-        Printed::Refused(refusal) => isa::missing_in(refusal),
+        Ok(_) => 0,
+        Err(refusal) => isa::missing_in(refusal),
     }
 }
 
 // Prints into the first n bytes of room, or into all if there are fewer.
-fn print_into(w: u32, n: usize, room: &mut [u8]) -> Printed {
+fn print_into(w: u32, n: usize, room: &mut [u8]) -> Result<usize, Refusal> {
     let most = n.min(room.len());
     text::print(isa::ALL_FLAGS, w, &mut room[..most])
 }
@@ -218,7 +205,7 @@ fn marks_unlisted(listed: &[u8]) -> bool {
 
 // Whether a refusal is what is listed, and left room as it was; if not, a line shows both.
 fn refusal_agrees(w: u32, refusal: Refusal, room: &[u8], listed: &[u8]) -> bool {
-    if isa::number(refusal) == UNLISTED && marks_unlisted(listed) && untouched(room) {
+    if refusal == Refusal::Unlisted && marks_unlisted(listed) && untouched(room) {
         return true;
     }
     io::print_hex(STDOUT_FILENO, w as u64, 8);
