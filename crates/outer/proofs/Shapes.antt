@@ -1,6 +1,6 @@
 -- What a shape gives: elements of its size fill a row, its products fill an element, and source elements lie in their
 -- registers. Assumes nothing.
-use Rattle.std.proofs.Common.{◌≡◌, ℕ, zero, suc, ◌%◌, le-ltb, lt-ltb, ◌+◌, ◌-◌, ◌*◌, ◌/◌, ◌^◌, ◌<◌, ◌≤◌, Bool, true, false, cond, ltb, List, ℤ, refl, mul-le-mul_right, mul-le-mul_left, le-div_iff_mul-le, arith, lit<, lit≤}
+use Rattle.std.proofs.Common.{◌≡◌, sym, ℕ, zero, suc, ◌%◌, le-ltb, lt-ltb, ◌+◌, ◌-◌, ◌*◌, ◌/◌, ◌^◌, ◌<◌, ◌≤◌, Bool, true, false, cond, ltb, List, ℤ, refl, mul-le-mul_right, mul-le-mul_left, le-div_iff_mul-le, arith, lit<, lit≤}
 use native.Mathlib.Nat.{div_self}
 use Rattle.storage.specs.Modulo.{plus}
 use Rattle.storage.specs.Sizes.{legal}
@@ -163,6 +163,17 @@ module _ (t : Task) {B : ℕ} (e : B ≡ t.o.element / t.o.products) where
   spot_in h i = spot t.ready.length_legal h (rw e (shape t.shaped).source) i
 
 -- ---- runs of columns for which a source is one register
+pub one_run : (o : Operand) (n : ℕ) → 0 < n → o.low.0 ≡ o.high.0 → (run : ℕ) → run < 1 → SameUntil o n (run * n) ((run + 1) * n)
+one_run o n h e run l =
+    let q : run ≡ 0 = omega arith in
+    rw q (record { more = omega arith; inside = omega arith; same = λ i a b. alike (ltb i (n / 2)) (ltb (0 * n) (n / 2)) })
+  where
+    alike : (s t : Bool) → cond s o.low.0 o.high.0 ≡ cond t o.low.0 o.high.0
+    alike true true = refl
+    alike true false = e
+    alike false true = sym e
+    alike false false = refl
+
 pub two_runs : (o : Operand) (n : ℕ) → 0 < n → n % 2 ≡ 0 → (run : ℕ) → run < 2 → SameUntil o n (run * (n / 2)) ((run + 1) * (n / 2))
 two_runs o n h e zero l = record { more = omega arith; inside = omega arith; same = λ i a b. rw (lt-ltb i (n / 2) (omega arith), lt-ltb (0 * (n / 2)) (n / 2) (omega arith)) }
 two_runs o n h e (suc zero) l = record { more = omega arith; inside = omega arith; same = λ i a b. rw (le-ltb i (n / 2) (omega arith), le-ltb (1 * (n / 2)) (n / 2) (omega arith)) }

@@ -1,6 +1,6 @@
 -- The words of the walks' own contracts: sizes, what the fast walk's two arrays hold, and elements of a tile counted row by
 -- row. Over the size E of a tile element in bytes and the number K of products, or over an outer product, which has both.
-use Rattle.std.specs.Prelude.{◌≡◌, refl, ℕ, ◌+◌, ◌*◌, ◌/◌, ◌^◌, ◌<◌, ◌≤◌, cond, ◌&&◌, List, length, ℤ, pos, ◌==◌, nat_le, nat_lt, slice_index_or}
+use Rattle.std.specs.Prelude.{◌≡◌, refl, ℕ, ◌+◌, ◌*◌, ◌/◌, ◌^◌, ◌<◌, ◌≤◌, cond, ◌&&◌, List, length, ℤ, pos, nat_le, nat_lt, slice_index_or}
 use Rattle.std.specs.Int.Signed.{mag}
 use Rattle.storage.specs.Tile.{add_to}
 use Rattle.outer.specs.declared.Operand.{Operand}

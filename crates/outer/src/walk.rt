@@ -42,17 +42,19 @@ impl Task<'_> {
     }
 
     // The second source's register in planes: the element for product j of column c at 64 * j + c, negated where the
-    // instruction subtracts, so that its products come out negated.
+    // instruction subtracts, so that its products come out negated. Of a copy of the
+    // task the compiler takes tests out of the loops.
     #[tactic(auto, using(crate::proofs::Shapes::few_products, crate::proofs::Shapes::few_columns_of, crate::proofs::Shapes::element_inside, crate::proofs::Shapes::number_lt))]
     fn widen(&self, register: usize, y: &mut [i32])
         requires register_bound { (register < 32) × (length y.old ≡ 256) }
         ensures { Planes self.now.vb self.now.o self.now.z.now self.now.p.now register y.new }
     {
-        let k = self.o.products;
-        for c in 0..self.columns() {
+        let task = *self;
+        let k = task.o.products;
+        for c in 0..task.columns() {
             for j in 0..k {
-                let v = self.element(self.o.second, register, k * c + j);
-                y[64 * j + c] = if self.o.subtract { 0 - v } else { v };
+                let v = task.element(task.o.second, register, k * c + j);
+                y[64 * j + c] = if task.o.subtract { 0 - v } else { v };
             }
         }
     }
@@ -114,9 +116,10 @@ impl Task<'_> {
         requires register_bound { (register < 32) × (row < self.now.vb / self.now.o.element) × (length x.old ≡ 8) }
         ensures { Fetched self.now.vb self.now.o self.now.z.now self.now.p.now register row x.new }
     {
-        let k = self.o.products;
+        let task = *self;
+        let k = task.o.products;
         for j in 0..k {
-            x[2 * j] = self.element(self.o.first, register, k * row + j);
+            x[2 * j] = task.element(task.o.first, register, k * row + j);
         }
     }
 

@@ -5,7 +5,7 @@ use Rattle.outer.proofs.Shapes.{shape, few_products, few_columns_of, number_lt}
 use Rattle.outer.proofs.Elements.{turned_taken, turned_added}
 use Rattle.outer.proofs.Arrays.{written, filled-before, plane_column, plane_product}
 use Rattle.outer.proofs.task.Task.widen.Invariants.{Is}
-use Rattle.outer.proofs.task.Task.widen.Goals.{then-self, else-self}
+use Rattle.outer.proofs.task.Task.widen.Goals.{then-task, else-task}
 use Rattle.outer.proofs.task.Task.widen.Goals as goal
 
 pub overflow_mul-k : goal.overflow_mul-k
@@ -30,10 +30,10 @@ loop-j-preserved c = λ n k f.
     let place = 64 * l.j + c.loop-c.c in
     let u = (shape t.shaped).source in
     let h : c.loop-c.c < 64 = omega (arith, few_columns_of t, c.loop-c-test.true, c.columns-c-end.ensures) in
-    let turned : Turned t.vb t.o t.z.now t.p.now c.args.register (t.o.products * c.loop-c.c + l.j) (to_z w32 c.if-self.y-bits) =
-    elim c.if-self.branch [
-      | then-self w ↦ rw w.y-is (turned_taken u c.element-v.ensures w.if-self.true refl)
-      | else-self w ↦ rw w.y-is (turned_added u c.element-v.ensures w.if-self.false refl)
+    let turned : Turned t.vb t.o t.z.now t.p.now c.args.register (t.o.products * c.loop-c.c + l.j) (to_z w32 c.if-task.y-bits) =
+    elim c.if-task.branch [
+      | then-task w ↦ rw w.y-is (turned_taken u c.element-v.ensures w.if-task.true refl)
+      | else-task w ↦ rw w.y-is (turned_added u c.element-v.ensures w.if-task.false refl)
     ] in
     written (Is t c.args.register n) l.y place n _ (omega (arith, h, few_products t, l.auto.y, c.requires.register_bound.1))
     (λ e. rw (e, plane_column l.j h, plane_product l.j h) turned)

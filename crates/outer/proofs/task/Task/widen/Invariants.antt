@@ -13,7 +13,7 @@ abbrev pub Filling : Task → ℕ → ℕ → ℕ → List ℤ → Type 0
 Filling t register c j y = (n : ℕ) → n / 64 < t.o.products → Filled c j n → Is t register n (signed_at y n)
 
 abbrev pub invariant-loop-j : goal.invariant-loop-j
-invariant-loop-j l = Filling l.self l.register l.c l.j l.y
+invariant-loop-j l = Filling l.task l.register l.c l.j l.y
 
 abbrev pub invariant-loop-c : goal.invariant-loop-c
-invariant-loop-c l = Filling l.self l.register l.c 0 l.y
+invariant-loop-c l = Filling l.task l.register l.c 0 l.y
