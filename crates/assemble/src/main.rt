@@ -12,7 +12,7 @@ use checks::{InputError, STDERR_FILENO, STDOUT_FILENO};
 use isa::Refusal;
 
 // How many lines came to words, how many of these were written, and how many lines were refused.
-#[derive(Clone, Copy)]
+#[derive(Clone, Copy, Default)]
 pub struct Counts {
     pub words: u64,
     pub written: u64,
@@ -26,22 +26,12 @@ fn main(rt: HostRuntime) {
         Err(InputError::TooLong) => {
             tell_number(b"the input has more bytes than ", checks::INPUT_ROOM as u64);
             tell(b", and is not assembled\n");
-            report(none());
+            report(Counts::default());
         }
         Err(InputError::Unreadable) => {
             tell(b"the input can't be read to its end, and is not assembled\n");
-            report(none());
+            report(Counts::default());
         }
-    }
-}
-
-fn none() -> Counts
-    ensures { (result.words ≡ 0) × (result.refused ≡ 0) }
-{
-    Counts {
-        words: 0,
-        written: 0,
-        refused: 0,
     }
 }
 
@@ -50,7 +40,7 @@ fn assemble(text: &[u8]) -> Counts
     ensures words { result.words ≡ count_over words_after 0 (lines text.now) }
     ensures refused { result.refused ≡ count_over refused_after 0 (lines text.now) }
 {
-    let mut counts = none();
+    let mut counts = Counts::default();
     let mut line_number: u64 = 0;
     for line in text.split(|&byte| byte == b'\n') {
         line_number = line_number.wrapping_add(1);
