@@ -1,4 +1,3 @@
-pub mod Puts
 pub mod Texts
 pub mod Rooms
 pub mod Lengths

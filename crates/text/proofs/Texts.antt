@@ -15,6 +15,10 @@ use Rattle.text.specs.Ascii.{ascii}
 use Rattle.text.specs.Spelling.{Text, name_text, separated, further, braced}
 use Rattle.text.specs.Put.{listed, shown}
 
+-- three texts put on an empty line
+pub in_turn : {none one two three : Text} (a b c : Text) → none ≡ [] → one ≡ none ++ a → two ≡ one ++ b → three ≡ two ++ c → three ≡ a ++ b ++ c
+in_turn a b c n p q r = rw (r, q, p, n)
+
 pub predicated_text : (h t p q v w : Text)
     → h ++ t ++ (ascii ", " ++ p ++ (ascii ", " ++ q)) ++ (ascii ", " ++ v ++ (ascii ", " ++ w)) ≡ h ++ separated (t ∷ p ∷ q ∷ v ∷ w ∷ [])
 predicated_text h t p q v w = simp (append_assoc, append-nil)

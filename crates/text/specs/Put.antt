@@ -1,5 +1,5 @@
--- What putting a text on a line leaves, and what print does with the line: the words of its own contracts.
-use Rattle.std.specs.Prelude.{◌≡◌, cond, List, [], ◌∷◌, ◌++◌, ℕ, ◌+◌, ◌≤◌, eqb, ltb, length, take, drop, Err, Ok, Result}
+-- The parts of a line that are no part of the grammar, and what print does with the line: the words of its own contracts.
+use Rattle.std.specs.Prelude.{cond, List, [], ◌∷◌, ◌++◌, ℕ, eqb, ltb, length, drop, Err, Ok, Result}
 use Rattle.isa.specs.declared.Instruction.{Instruction}
 use Rattle.isa.specs.declared.Refusal.{Refusal}
 use Rattle.isa.specs.declared.Refusal.TheVariants.{Room}
@@ -7,12 +7,6 @@ use Rattle.names.specs.declared.TileName.{TileName}
 use Rattle.names.specs.Lists.{name_of}
 use Rattle.text.specs.Ascii.{ascii}
 use Rattle.text.specs.Spelling.{Text, decimal, suffix, name_text, further, spelling}
-
--- t, at most so many bytes, stands on the line from `at` to `next`; what stood before it is as it was
-pub record Put (most : ℕ) (before : List ℕ) (at : ℕ) (line : List ℕ) (next : ℕ) (t : Text) : Type 0 where
-  pub short : length t ≤ most
-  pub ends : next ≡ at + length t
-  pub text : take next line ≡ take at before ++ t
 
 -- names as they stand behind ZERO's opening brace: a space before the first, a comma and a space before each other
 abbrev pub shown : List Text → Text

@@ -29,11 +29,12 @@ fn print_line(i: Instruction, room: &mut [u8]) -> Result<usize, Refusal>
     ensures answer { result ≡ printed_in i (length room.old) }
     ensures room_after { room.new ≡ filled_with i room.old }
 {
-    let mut text = [0u8; 48];
-    let n = line::spell(i, &mut text);
+    let line = line::spell(i);
+    let text = line.as_bytes();
+    let n = text.len();
     if room.len() < n {
         return Err(Refusal::Room);
     }
-    room[..n].copy_from_slice(&text[..n]);
+    room[..n].copy_from_slice(text);
     Ok(n)
 }
