@@ -158,11 +158,7 @@ impl Line {
     {
         self.put_signs(op.u0, op.u1);
         self.put(stem);
-        let subtract = op.subtract;
-        if subtract {
-            return self.put(b"s");
-        }
-        self.put(b"a")
+        self.put(if op.subtract { b"s" } else { b"a" });
     }
 
     // u for an unsigned source and s for a signed one; two of a kind are written once.
@@ -171,16 +167,13 @@ impl Line {
         ensures put { self.new ≡ self.old ++ signs u0 u1 }
         ensures short { length self.new ≤ length self.old + 2 }
     {
-        if u0 {
-            if u1 {
-                return self.put(b"u");
-            }
-            return self.put(b"us");
-        }
-        if u1 {
-            return self.put(b"su");
-        }
-        self.put(b"s")
+        let text: &[u8] = match (u0, u1) {
+            (true, true) => b"u",
+            (true, false) => b"us",
+            (false, true) => b"su",
+            (false, false) => b"s",
+        };
+        self.put(text);
     }
 
     // Both predicates, each behind a comma.
