@@ -163,7 +163,7 @@ fn leaves(
 fn executes(bench: Bench, z: &[u8], p: &[u8], za: &mut [u8], words: &[u32]) -> bool {
     for &word in words {
         let outcome = machine::execute(bench, z, p, za, word);
-        if let machine::Outcome::Refused(_) = outcome {
+        if outcome.is_err() {
             return false;
         }
     }
