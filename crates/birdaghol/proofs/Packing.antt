@@ -23,7 +23,6 @@ use Rattle.machine.specs.Machine.{Machine}
 use Rattle.machine.specs.declared.Ended.{Ended}
 use Rattle.machine.proofs.Tests.{outcome_back}
 use Rattle.machine.proofs.Theorems.{runs}
-use Rattle.machine.specs.declared.Bench.{Bench}
 use Rattle.capture.specs.Outcomes.{Buffers, Reads}
 use Rattle.capture.proofs.Captures.{modes-most}
 use Rattle.capture.proofs.Theorems.{contents_small}

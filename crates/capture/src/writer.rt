@@ -7,8 +7,8 @@ ghost use Rattle.machine.specs.Lists.{most_words};
 ghost use Rattle.capture.specs.Format.{version, head_of, modes, word_bytes, part, bytes_of_capture, capture_of};
 ghost use Rattle.capture.specs.Outcomes.{write_of, room_written, write_number, write_length};
 
-use crate::big_endian::{put_bytes, put_words, store_u32};
 use crate::VERSION;
+use crate::big_endian::{put_bytes, put_words, store_u32};
 use isa::Refusal;
 use machine::Bench;
 

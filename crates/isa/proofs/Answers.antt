@@ -11,7 +11,7 @@ use Rattle.std.specs.Prelude.{Err, Ok, Result}
 use Rattle.isa.specs.Row.{matches}
 use Rattle.isa.specs.Refusals.{first_failure}
 use Rattle.isa.specs.Table.{Feature, flag, SME, I16I64, MOP4, SME2, on, lacking, all_flags, Entry, table, described, in_range, word_for}
-use Rattle.isa.specs.Answers.{lookup, described_by, needed_by, describe, missing, decode_tests, room_tests, decided, decode_of, decode_refusal, encode_of}
+use Rattle.isa.specs.Answers.{lookup, describe, missing, decode_tests, room_tests, decided, decode_of, decode_refusal, encode_of}
 use Rattle.isa.specs.Claims.{AllOn}
 use Rattle.isa.specs.declared.Instruction.{Instruction}
 use Rattle.isa.specs.declared.Refusal.{Refusal}

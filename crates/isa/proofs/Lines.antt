@@ -5,15 +5,11 @@ use mathlib.Core.Bool.{Bool, true, false, not, cond, ◌&&◌}
 use mathlib.Core.List.Memᴰ
 use mathlib.Core.List.{List, [], ◌∷◌, ◌++◌, Memᴰ}
 use Prim.Native.Nat.{ℕ, zero, suc, ◌+◌, ◌-◌, ◌*◌, ◌/◌, ◌%◌, ◌^◌, ◌<◌, ◌≤◌}
-use native.Mathlib.Nat.{div-one}
 use native.Mathlib.Omega.{arith}
 use lib.Dec.{eqb, ltb, leb}
 use borrow.Author.Tests.{eq-eqb, eqb-true, ltb-true, leb-true, lt-ltb, le-leb}
 use Rattle.isa.specs.Row.{Name, u0, u1, S, ZAda, Zn, Zm, Pn, Pm, N, M, mask, field, Row, Fields, size, every, word_of, field_of, matches}
-use Rattle.isa.specs.Table.{predicated64, quarter64, one?, is_wide, second_sign, operation_of_fields, bit, source, is_pair, register, Entry, predicated_row, quarter_row, predicated, quarter, zeroing, base_table, table, described, shape_of, entry_of, fields_from, word_for, element_bytes, products_of, tiles_of, is_formed, ranges, in_range}
-use Rattle.isa.specs.declared.Tile.{Tile}
-use Rattle.isa.specs.declared.Predicate.{Predicate}
-use Rattle.isa.specs.declared.Vector.{Vector}
+use Rattle.isa.specs.Table.{predicated64, quarter64, one?, is_wide, second_sign, operation_of_fields, bit, source, is_pair, register, Entry, predicated_row, quarter_row, predicated, quarter, zeroing, base_table, table, described, shape_of, entry_of, fields_from, word_for, element_bytes, products_of, is_formed, ranges, in_range}
 use Rattle.isa.specs.declared.Shape.{Shape}
 use Rattle.isa.specs.declared.Shape.TheVariants.{Bytes32, Halves64, Halves32}
 use Rattle.isa.specs.declared.Operation.{Operation}

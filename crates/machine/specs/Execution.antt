@@ -1,7 +1,7 @@
 -- One word: which refusal it gets, and what it leaves (document 01, "Execution" and "Refusal numbers", and document 02, C-15).
 use Rattle.std.specs.Prelude.{Bool, true, false, not, ◌&&◌, List, [], ◌∷◌, ◌++◌, ℕ, eqb, ℤ, length, Err, Ok, Result}
 use Rattle.std.proofs.Math.Option.{Option, none, some}
-use Rattle.isa.specs.Refusals.{refusal_number, refusal_missing, Test, first_failure}
+use Rattle.isa.specs.Refusals.{Test, first_failure}
 use Rattle.isa.specs.Answers.{describe, flags_test, listing_tests}
 use Rattle.isa.specs.declared.Refusal.{Refusal}
 use Rattle.isa.specs.declared.Refusal.TheVariants.{VectorLength, ZLength, PLength, ZaLength, StreamingOff, ZaOff}

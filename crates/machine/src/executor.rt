@@ -10,9 +10,9 @@ ghost use Rattle.machine.specs.Execution.{machine_tests, word_refusal, left_by, 
 ghost use Rattle.machine.specs.Lists.{next_tests};
 ghost use Rattle.machine.specs.Claims.{execute_number, execute_missing};
 
+use crate::Bench;
 use crate::admission::{admit_next, check_bench};
 use crate::operands::{predicated_outer, quarter_outer};
-use crate::Bench;
 use isa::{Instruction, Refusal};
 
 // Executes a word on ZA, or refuses it and leaves ZA as it was.

@@ -10,8 +10,8 @@ ghost use Rattle.machine.specs.Instructions.{has_opposite};
 ghost use Rattle.machine.specs.Execution.{word_tests, none?};
 ghost use Rattle.machine.specs.Exchange.{flip_s, exchanged};
 
-use crate::admission::{admit, check_bench};
 use crate::Bench;
+use crate::admission::{admit, check_bench};
 use isa::Instruction;
 
 // The word with add and subtract exchanged, where it is one that `execute` accepts and that has an opposite; else the word.

@@ -12,7 +12,6 @@ use Rattle.isa.specs.declared.PredicatedProduct.{PredicatedProduct}
 use Rattle.isa.specs.declared.QuarterProduct.{QuarterProduct}
 use Rattle.isa.specs.declared.Tile.{Tile}
 use Rattle.isa.specs.declared.Predicate.{Predicate}
-use Rattle.isa.specs.declared.Vector.{Vector}
 use Rattle.isa.specs.declared.Source.{Source}
 use Rattle.isa.specs.declared.Source.TheVariants.{One, Pair}
 use Rattle.isa.specs.declared.Instruction.{Instruction}

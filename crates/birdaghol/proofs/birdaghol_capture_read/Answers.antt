@@ -1,7 +1,6 @@
 -- `birdaghol::birdaghol_capture_read` meets its contract: read's outcome, packed. Assumes nothing.
 use native.Mathlib.Omega.{arith}
 use Rattle.birdaghol.proofs.Packing.{read_small, contents_fit, contents_packed, refusal_packed}
-use borrow.Author.Rules.{rules}
 use Rattle.birdaghol.proofs.birdaghol_capture_read.Goals as goal
 
 pub contents_number-requires : goal.contents_number-requires

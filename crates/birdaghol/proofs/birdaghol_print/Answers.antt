@@ -1,11 +1,8 @@
 -- `birdaghol::birdaghol_print` meets its contract: print's answer, packed. Assumes nothing.
 use mathlib.Core.Path.{◌∙◌, sym, ap}
-use mathlib.Core.List.{List}
-use Prim.Native.Nat.{ℕ}
 use native.Mathlib.Omega.{arith}
 use Rattle.birdaghol.specs.Calls.{packed_result}
 use Rattle.birdaghol.proofs.Packing.{value_alone, printed_short}
-use borrow.Author.Rules.{rules}
 use Rattle.birdaghol.proofs.birdaghol_print.Goals as goal
 
 pub overflow_mul-result : goal.overflow_mul-result

@@ -1,6 +1,5 @@
 -- `capture::finder::five_parts` meets its contract: each part stands behind the one before it. Assumes nothing.
 use mathlib.Core.Path.{sym}
-use native.Mathlib.Omega.{arith}
 use Rattle.capture.proofs.Partition.{no_more, then_none, left_over}
 use Rattle.capture.proofs.finder.five_parts.Goals as goal
 

@@ -1,9 +1,8 @@
 -- `capture::writer::write` meets its contract. Assumes nothing.
-use mathlib.Core.Path.{◌≡◌, ◌∙◌, refl, sym}
+use mathlib.Core.Path.{◌≡◌, ◌∙◌, refl}
 use native.Mathlib.Omega.{arith}
 use lib.ListN.{length}
-use Rattle.std.specs.Prelude.{Ok, Result}
-use Rattle.isa.specs.declared.Refusal.{Refusal}
+use Rattle.std.specs.Prelude.{Ok}
 use Rattle.isa.specs.Refusals.{first_failure}
 use Rattle.isa.proofs.Refusals.{handed_on}
 use Rattle.machine.specs.Lists.{start_tests}

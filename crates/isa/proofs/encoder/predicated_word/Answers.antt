@@ -3,9 +3,8 @@ use mathlib.Core.Path.{◌≡◌}
 use mathlib.Core.Bool.{not, ◌&&◌}
 use Prim.Native.Nat.{◌+◌}
 use native.Mathlib.Omega.{arith}
-use Rattle.isa.specs.Table.{predicated64, word_for, fields_from}
+use Rattle.isa.specs.Table.{word_for, fields_from}
 use Rattle.isa.specs.declared.Instruction.TheVariants.{Predicated}
-use Rattle.isa.proofs.Rows.{Fit}
 use Rattle.isa.proofs.Lines.{predicated_range, predicated-sum, bit_lt, u1_bit, word-described}
 use Rattle.isa.proofs.encoder.predicated_word.Goals as goal
 use Rattle.isa.proofs.encoder.predicated_word.Goals.{After-predicated_bits}

@@ -4,7 +4,7 @@ use mathlib.Core.List.{List, [], ◌∷◌}
 use mathlib.Core.Option.{Option, none, some}
 use Prim.Native.Nat.{ℕ}
 use borrow.Author.Rules.{rules}
-use Rattle.std.specs.Prelude.{Ok, Result}
+use Rattle.std.specs.Prelude.{Ok}
 use Rattle.isa.specs.Refusals.{Test, first_failure}
 use Rattle.isa.specs.Answers.{describe}
 use Rattle.isa.specs.declared.Instruction.{Instruction}

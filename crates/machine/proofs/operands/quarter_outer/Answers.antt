@@ -1,8 +1,6 @@
 -- `machine::operands::quarter_outer` meets its contract, by its callees'. Assumes nothing.
 use mathlib.Core.Path.{◌∙◌}
-use Prim.Native.Nat.{◌≤◌}
 use native.Mathlib.Omega.{arith}
-use Rattle.isa.specs.Table.{register}
 use Rattle.isa.proofs.Lines.{quarter_range}
 use Rattle.machine.proofs.operands.quarter_outer.Goals as goal
 
