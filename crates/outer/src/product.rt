@@ -1,5 +1,6 @@
-// Products, and the tile elements that they are added to. Sizes and the number of products are run-time numbers: what is
-// multiplied, and the type that wraps, go by them.
+// Products, and the tile elements that they are added to. Sizes and the number of products are run-time numbers, since the plain
+// walk has them so, and a const parameter would put the same switch round each call there: what is multiplied, and the type that
+// wraps, go by them. The fast walk calls these with constants.
 ghost use Rattle.std.specs.Prelude.{◌≡◌, ◌+◌, ◌/◌, ◌^◌, ◌<◌, ◌≤◌, length, pos, ◌*ℤ◌, neg_ℤ};
 ghost use Rattle.std.proofs.lemmas.List.Edits.{sets};
 ghost use Rattle.std.specs.Int.Signed.{mag};

@@ -59,8 +59,8 @@ impl Task<'_> {
         }
     }
 
-    // A row, by the registers of the first source. One call serves all runs: with two the compiler keeps the columns' walk apart,
-    // and a list of words takes a seventh to a half longer.
+    // A row, by the registers of the first source. One call serves all runs: of two, the compiler keeps the walk over columns
+    // apart, and lists of words took up to a fifth longer.
     fn add_row(&self, row: usize, y: &[i32], za: &mut [u8])
         requires za_len { length za.old ≡ za_size self.now.vb }
         requires row_bound { row < self.now.vb / self.now.o.element }
