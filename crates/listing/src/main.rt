@@ -75,7 +75,9 @@ impl Listing {
         self.lines = self.lines.wrapping_add(1);
         self.bytes = self.bytes.wrapping_add(line.len() as u64);
         self.sum = self.sum.wrapping_add(sum_of(line));
-        self.back = self.back.wrapping_add(u64::from(reader::read(isa::ALL_FLAGS, line) == Ok(word)));
+        self.back = self
+            .back
+            .wrapping_add(u64::from(reader::read(isa::ALL_FLAGS, line) == Ok(word)));
     }
 }
 

@@ -2,8 +2,8 @@
 // tile too few, the run stops at the word that would have added to old sums; with all of ZA cleared first, it ends the same.
 #![tactic(auto)]
 
-use isa::Refusal;
 use checks::{Fill, STDOUT_FILENO, part};
+use isa::Refusal;
 use machine::Bench;
 
 const FLAGS: u32 = 15;

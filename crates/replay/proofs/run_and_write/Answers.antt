@@ -1,5 +1,5 @@
 -- `replay::run_and_write` meets its contract: what run leaves is what is written. Assumes nothing.
-use mathlib.Core.Path.{◌∙◌, sym}
+use mathlib.Core.Path.{◌∙◌}
 use Rattle.isa.proofs.Refusals.{handed_on}
 use Rattle.replay.proofs.Replaying.{run_told}
 use Rattle.replay.proofs.run_and_write.Goals as goal
