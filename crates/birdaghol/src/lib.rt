@@ -1,4 +1,4 @@
-// The functions that C and Rust programs call. Each but birdaghol_order_matters answers value * 65536 + missing * 256 + refusal.
+// The functions that C and Rust programs call, on numbers, as C has them. Each but birdaghol_order_matters answers value * 65536 + missing * 256 + refusal.
 #![tactic(auto)]
 
 ghost use Rattle.std.specs.Prelude.{◌≡◌, cond, [], ◌∷◌, ◌++◌, ◌≤◌, ltb, length, drop};

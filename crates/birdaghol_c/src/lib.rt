@@ -1,4 +1,4 @@
-// The functions of the library `birdaghol`, as C calls them.
+// The functions of the library `birdaghol`, as C calls them: only a crate that is a static library exports.
 #![tactic(auto)]
 
 ghost use Rattle.std.specs.Prelude.{◌≡◌, length};

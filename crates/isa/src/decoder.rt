@@ -13,7 +13,7 @@ use crate::{
     Source, Tile, Vector,
 };
 
-// The features' flags.
+// The features' flags. Numbers, as a bench's flags are a sum of them: any number may come, and `decode` answers for each.
 const SME: u32 = 1;
 
 const I16I64: u32 = 2;

@@ -30,7 +30,8 @@ pub enum Source {
 }
 
 // What an outer product does: on a 64-bit tile (wide) or a 32-bit one, by two products an element (two_way) or four, with
-// its first (u0) and its second (u1) source read as unsigned, added or subtracted.
+// its first (u0) and its second (u1) source read as unsigned, added or subtracted. wide and two_way stand apart, and are no Shape,
+// so that what is both can be written down and refused (`encodes .gives_11`).
 #[derive(Clone, Copy)]
 pub struct Operation {
     pub wide: bool,

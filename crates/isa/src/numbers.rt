@@ -4,7 +4,7 @@ ghost use Rattle.isa.specs.Refusals.{number as number_of, missing_in};
 
 use crate::Refusal;
 
-// The paper's number of a refusal; 0 is kept for none.
+// The paper's number of a refusal; 0 is kept for none. A name says more than u32::from would.
 pub fn number(r: Refusal) -> u32
     ensures { result ≡ number_of r }
 {

@@ -166,24 +166,13 @@ fn name_if_fixed(i: usize, word: u32) -> bool
             name_refused(i, word, r);
             true
         }
-        Ok(instruction) => {
-            let outer = is_outer(instruction);
-            if !outer {
-                write(b"fixed: ");
-                write_word(i, word);
-                write(b"\n");
-            }
-            !outer
+        Ok(Instruction::Zero(_)) => {
+            write(b"fixed: ");
+            write_word(i, word);
+            write(b"\n");
+            true
         }
-    }
-}
-
-fn is_outer(i: Instruction) -> bool
-    ensures { result ≡ is_outer (some i) }
-{
-    match i {
-        Instruction::Predicated(_) | Instruction::Quarter(_) => true,
-        Instruction::Zero(_) => false,
+        Ok(_) => false,
     }
 }
 

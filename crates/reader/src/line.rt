@@ -32,15 +32,14 @@ fn has_text(w: u32, line: &[u8]) -> bool
 {
     let mut room = [0u8; 47];
     match text::print(isa::ALL_FLAGS, w, &mut room) {
-        Ok(n) => same(&room, n, line),
+        Ok(n) => same(&room[..n], line),
         Err(_) => false,
     }
 }
 
-// Whether the first n bytes of room are the line.
-fn same(room: &[u8], n: usize, line: &[u8]) -> bool
-    requires { n ≤ length room.now }
-    ensures { result ≡ same_text (take n room.now) line.now }
+// Whether two texts are the same, by the definition's words.
+fn same(text: &[u8], line: &[u8]) -> bool
+    ensures { result ≡ same_text text.now line.now }
 {
-    &room[..n] == line
+    text == line
 }

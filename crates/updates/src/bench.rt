@@ -101,25 +101,25 @@ pub(crate) fn second_register(c: Case) -> usize {
 fn first_of(c: Case) -> Operand
     ensures { GoodOperand result }
 {
-    if !c.quarter {
-        return operand(1, 1, Predication::By(Predicate(1)), c.u0);
-    }
-    if c.first_pair {
-        return operand(2, 3, Predication::Unpredicated, c.u0);
-    }
-    operand(2, 2, Predication::Unpredicated, c.u0)
+    source_of(c, 1, 2, c.first_pair, c.u0)
 }
 
 fn second_of(c: Case) -> Operand
     ensures { GoodOperand result }
 {
+    source_of(c, 2, 18, c.second_pair, c.u1)
+}
+
+// A source: of a predicated case register n by predicate n, else register m, or the pair that it begins.
+fn source_of(c: Case, n: u32, m: u32, pair: bool, unsigned: bool) -> Operand
+    requires { (n < 8) × (m < 31) }
+    ensures { GoodOperand result }
+{
     if !c.quarter {
-        return operand(2, 2, Predication::By(Predicate(2)), c.u1);
+        return operand(n, n, Predication::By(Predicate(n)), unsigned);
     }
-    if c.second_pair {
-        return operand(18, 19, Predication::Unpredicated, c.u1);
-    }
-    operand(18, 18, Predication::Unpredicated, c.u1)
+    let last = if pair { m + 1 } else { m };
+    operand(m, last, Predication::Unpredicated, unsigned)
 }
 
 // The bytes of a tile element, and how many products come to it.

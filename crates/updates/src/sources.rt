@@ -5,15 +5,8 @@ use crate::figures::Tally;
 
 // All bytes FF: four times (-1)(-1) = 1, (-1)255 or 255(-1) = -FF, 255·255 = FE01; subtracted, the negatives.
 pub(crate) fn signs32(t: &mut Tally, c: Case, byte: usize) {
-    all_ff(t, c, byte, 0x4);
-    all_ff(t, c.with_signs(false, true), byte, 0xffff_fc04);
-    all_ff(t, c.with_signs(true, false), byte, 0xffff_fc04);
-    all_ff(t, c.with_signs(true, true), byte, 0x3_f804);
-    let s = c.subtracted();
-    all_ff(t, s, byte, 0xffff_fffc);
-    all_ff(t, s.with_signs(false, true), byte, 0x3fc);
-    all_ff(t, s.with_signs(true, false), byte, 0x3fc);
-    all_ff(t, s.with_signs(true, true), byte, 0xfffc_07fc);
+    all_ff_by_signs(t, c, byte, [0x4, 0xffff_fc04, 0x3_f804]);
+    all_ff_by_signs(t, c.subtracted(), byte, [0xffff_fffc, 0x3fc, 0xfffc_07fc]);
     one_sign32(t, c, byte);
 }
 
@@ -27,15 +20,9 @@ fn one_sign32(t: &mut Tally, c: Case, byte: usize) {
 
 // All halfwords FFFF: four times 1, -FFFF or FFFF·FFFF = FFFE0001; subtracted, the negatives.
 pub(crate) fn signs64(t: &mut Tally, c: Case, byte: usize) {
-    all_ff(t, c, byte, 0x4);
-    all_ff(t, c.with_signs(false, true), byte, 0xffff_ffff_fffc_0004);
-    all_ff(t, c.with_signs(true, false), byte, 0xffff_ffff_fffc_0004);
-    all_ff(t, c.with_signs(true, true), byte, 0x3_fff8_0004);
-    let s = c.subtracted();
-    all_ff(t, s, byte, 0xffff_ffff_ffff_fffc);
-    all_ff(t, s.with_signs(false, true), byte, 0x3_fffc);
-    all_ff(t, s.with_signs(true, false), byte, 0x3_fffc);
-    all_ff(t, s.with_signs(true, true), byte, 0xffff_fffc_0007_fffc);
+    all_ff_by_signs(t, c, byte, [0x4, 0xffff_ffff_fffc_0004, 0x3_fff8_0004]);
+    let subtracted = [0xffff_ffff_ffff_fffc, 0x3_fffc, 0xffff_fffc_0007_fffc];
+    all_ff_by_signs(t, c.subtracted(), byte, subtracted);
     one_sign64(t, c, byte);
 }
 
@@ -50,6 +37,15 @@ fn one_sign64(t: &mut Tally, c: Case, byte: usize) {
         byte,
         0xffff_ffff_f7f8_0808,
     );
+}
+
+// All bytes FF, where both sources are signed, where one is, and where none is.
+fn all_ff_by_signs(t: &mut Tally, c: Case, byte: usize, expected: [u64; 3]) {
+    let [signed, mixed, unsigned] = expected;
+    all_ff(t, c, byte, signed);
+    all_ff(t, c.with_signs(false, true), byte, mixed);
+    all_ff(t, c.with_signs(true, false), byte, mixed);
+    all_ff(t, c.with_signs(true, true), byte, unsigned);
 }
 
 pub(crate) fn all_ff(t: &mut Tally, c: Case, byte: usize, expected: u64) {
