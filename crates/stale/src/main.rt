@@ -2,7 +2,7 @@
 // tile too few, the run stops at the word that would have added to old sums; with all of ZA cleared first, it ends the same.
 #![tactic(auto)]
 
-use checks::{Fill, STDOUT_FILENO, part};
+use checks::{Fill, STDOUT_FILENO};
 use isa::Refusal;
 use machine::Bench;
 
@@ -82,12 +82,9 @@ fn write_stop(words: &[u32], place: usize, outcome: Result<(), Refusal>) {
     let Some(&word) = words.get(place) else {
         return;
     };
-    part(b"  stopped at word ", place as u64 + 1);
-    io::write_all(STDOUT_FILENO, b", ");
+    checks::print(format_args!("  stopped at word {}, ", place as u64 + 1));
     write_text(word);
-    io::write_all(STDOUT_FILENO, b"\n  refused ");
-    refusals::write_refusal(STDOUT_FILENO, r);
-    io::write_all(STDOUT_FILENO, b"\n");
+    checks::print(format_args!("\n  refused {}\n", refusals::Told(r)));
 }
 
 // What the run prevents: the kernel without its ZERO, executed word by word.
@@ -96,16 +93,12 @@ fn play_from_both(z: &[u8], p: &[u8]) {
     let mut zeros = [0u8; 256];
     machine::play(bench(), z, p, &mut old, &KERNEL);
     machine::play(bench(), z, p, &mut zeros, &KERNEL);
-    io::write_all(STDOUT_FILENO, b"without its zero, word by word");
+    checks::print(format_args!("without its zero, word by word"));
     write_differing(&old, &zeros);
 }
 
 fn write_differing(old: &[u8], zeros: &[u8]) {
-    part(
-        b"; bytes of ZA that differ: ",
-        checks::differing(old, zeros),
-    );
-    io::write_all(STDOUT_FILENO, b"\n");
+    checks::count("; bytes of ZA that differ: ", checks::differing(old, zeros));
 }
 
 fn old_sums() -> [u8; 256] {
