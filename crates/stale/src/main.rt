@@ -82,7 +82,7 @@ fn write_stop(words: &[u32], place: usize, outcome: Result<(), Refusal>) {
     let Some(&word) = words.get(place) else {
         return;
     };
-    checks::print(format_args!("  stopped at word {}, ", place as u64 + 1));
+    checks::print(format_args!("  stopped at word {}, ", place + 1));
     write_text(word);
     checks::print(format_args!("\n  refused {}\n", refusals::Told(r)));
 }
