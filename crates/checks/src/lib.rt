@@ -2,11 +2,13 @@
 #![tactic(auto)]
 
 mod counts;
+mod output;
 mod stdin;
 mod stream;
 mod text;
 
-pub use counts::{count, differing, has, part};
+pub use counts::{count, differing, has};
+pub use output::{eprint, print};
 pub use stdin::{INPUT_ROOM, input_room, read_input};
 pub use stream::{generate, next};
 pub use text::{field_end, first, hexadecimal_of};
