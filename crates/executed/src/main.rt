@@ -16,10 +16,10 @@ fn main() {
     let mut input = checks::input_room();
     let n = io::read_full(STDIN_FILENO, &mut input);
     if n == checks::INPUT_ROOM {
-        io::write_all(STDOUT_FILENO, b"input too long\n");
+        checks::print("input too long\n");
         return;
     }
-    compare(&input[..n]).report(b"lists: ");
+    compare(&input[..n]).report("lists: ");
 }
 
 fn compare(input: &[u8]) -> Tally {
@@ -49,9 +49,9 @@ fn line_outcome(line: &[u8]) -> Outcome {
     match list_agrees(line) {
         Some(true) => Outcome::Agreed,
         Some(false) => {
-            io::write_all(STDOUT_FILENO, b"disagrees: ");
+            checks::print("disagrees: ");
             io::write_all(STDOUT_FILENO, line);
-            io::write_all(STDOUT_FILENO, b"\n");
+            checks::print("\n");
             Outcome::Disagreed
         }
         None => Outcome::Malformed,

@@ -4,7 +4,7 @@
 
 ghost use Rattle.std.specs.Prelude.{◌≡◌, ◌≤◌, length};
 
-use checks::{Fill, STDOUT_FILENO, differing, generate, next, part};
+use checks::{Fill, differing, generate, next};
 use machine::Bench;
 
 const ALL_FEATURES: u32 = 15;
@@ -34,13 +34,10 @@ fn report(vb: usize)
     requires { vb ≤ 256 }
 {
     let t = tally_at(vb);
-    part(b"VB ", vb as u64);
-    part(b": lists ", t.lists);
-    part(b", words ", t.words);
-    part(b", accepted ", t.accepted);
-    part(b", lists that changed ZA ", t.changed);
-    part(b", bytes that differ in the end ", t.differing);
-    io::write_all(STDOUT_FILENO, b"\n");
+    checks::print(format_args!(
+        "VB {vb}: lists {}, words {}, accepted {}, lists that changed ZA {}, bytes that differ in the end {}\n",
+        t.lists, t.words, t.accepted, t.changed, t.differing
+    ));
 }
 
 // Makes the bench of the vector length and room for Z, P, ZA and ZA's start.

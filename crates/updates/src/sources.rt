@@ -49,13 +49,13 @@ fn all_ff_by_signs(t: &mut Tally, c: Case, byte: usize, expected: [u64; 3]) {
 }
 
 pub(crate) fn all_ff(t: &mut Tally, c: Case, byte: usize, expected: u64) {
-    after(t, c, b"all ff", &[0xff; 1024], byte, expected)
+    after(t, c, "all ff", &[0xff; 1024], byte, expected)
 }
 
 pub(crate) fn ff_by_2(t: &mut Tally, c: Case, byte: usize, expected: u64) {
     let mut z = [0xff; 1024];
     bench::set_row(&mut z, c.vb, bench::second_register(c), 2, 2);
-    after(t, c, b"ff by 02", &z, byte, expected);
+    after(t, c, "ff by 02", &z, byte, expected);
 }
 
 // First source 0, 1, 2, .., second ones: 4·row + k over k is 16·row + 6; the other way round 16·col + 6; both ramps
@@ -67,15 +67,15 @@ pub(crate) fn ramp(t: &mut Tally, c: Case, byte: usize, first: u64, second: u64,
     let m = bench::second_register(c);
     bench::set_ramp(&mut z, c, n);
     bench::set_elements(&mut z, c, m, 1);
-    after(t, c, b"ramp by ones", &z, byte, first);
+    after(t, c, "ramp by ones", &z, byte, first);
     bench::set_ramp(&mut z, c, m);
-    after(t, c, b"ramp by ramp", &z, byte, both);
+    after(t, c, "ramp by ramp", &z, byte, both);
     bench::set_elements(&mut z, c, n, 1);
-    after(t, c, b"ones by ramp", &z, byte, second);
+    after(t, c, "ones by ramp", &z, byte, second);
 }
 
 // A tile element after a run on zeros, all elements active.
-pub(crate) fn after(t: &mut Tally, c: Case, what: &[u8], z: &[u8], byte: usize, expected: u64) {
+pub(crate) fn after(t: &mut Tally, c: Case, what: &str, z: &[u8], byte: usize, expected: u64) {
     let mut za = [0u8; 1024];
     bench::run(c, z, &[0xff; 64], &mut za);
     t.element(c, what, &za, byte, expected);

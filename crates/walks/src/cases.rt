@@ -6,6 +6,7 @@ ghost use Rattle.walks.specs.Room.{Room, Drawn};
 use checks::{Fill, generate, next};
 use isa::{Predicate, Tile, Vector};
 use outer::{Operand, OuterProduct, Predication};
+use std::fmt;
 
 // Updates on vectors of vb bytes, with so many products to a tile element of `element` bytes, of the quarter-tile family or of
 // the predicated one.
@@ -24,21 +25,19 @@ pub const CASES: u32 = 2 * 4 * 4 * 3;
 // A case of register pairs and of full predicates.
 pub const TIMED_CASE: u32 = 24;
 
-pub(crate) fn write_kind(fd: i32, kind: Kind) {
-    let quarter = kind.quarter;
-    io::write_all(fd, b"VB ");
-    io::print_decimal(fd, kind.vb as u64);
-    if quarter {
-        io::write_all(fd, b", quarter-tile, ");
-    } else {
-        io::write_all(fd, b", predicated, ");
-    }
-    io::print_decimal(fd, kind.products as u64);
-    io::write_all(fd, b"-way, ");
-    if kind.element == 8 {
-        io::write_all(fd, b"64-bit");
-    } else {
-        io::write_all(fd, b"32-bit");
+impl fmt::Display for Kind {
+    fn fmt<W: fmt::Write>(&self, f: &mut fmt::Formatter<W>) -> fmt::Result {
+        let family = if self.quarter {
+            "quarter-tile"
+        } else {
+            "predicated"
+        };
+        let bits = if self.element == 8 { 64 } else { 32 };
+        write!(
+            f,
+            "VB {}, {family}, {}-way, {bits}-bit",
+            self.vb, self.products
+        )
     }
 }
 
