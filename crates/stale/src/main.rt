@@ -8,6 +8,13 @@ use machine::Bench;
 
 const FLAGS: u32 = 15;
 
+const BENCH: Bench = Bench {
+    flags: FLAGS,
+    sm: true,
+    za: true,
+    vb: 16,
+};
+
 const ZERO_ALL: u32 = 0xC008_00FF;
 
 // The kernel of `assemble` without its ZEROs: outer products of each family and shape, on tiles that have every row of ZA.
@@ -51,8 +58,8 @@ fn with_zero(z: &[u8], p: &[u8], zero: u32) {
 fn run_from_both(name: &str, z: &[u8], p: &[u8], words: &[u32]) {
     let mut old = old_sums();
     let mut zeros = [0u8; 256];
-    let ended = machine::run(bench(), z, p, &mut old, words);
-    let again = machine::run(bench(), z, p, &mut zeros, words);
+    let ended = machine::run(BENCH, z, p, &mut old, words);
+    let again = machine::run(BENCH, z, p, &mut zeros, words);
     let outcome = ended.outcome;
     let outcome_again = again.outcome;
     checks::print(format_args!(
@@ -91,8 +98,8 @@ fn write_stop(words: &[u32], place: usize, outcome: Result<(), Refusal>) {
 fn play_from_both(z: &[u8], p: &[u8]) {
     let mut old = old_sums();
     let mut zeros = [0u8; 256];
-    machine::play(bench(), z, p, &mut old, &KERNEL);
-    machine::play(bench(), z, p, &mut zeros, &KERNEL);
+    machine::play(BENCH, z, p, &mut old, &KERNEL);
+    machine::play(BENCH, z, p, &mut zeros, &KERNEL);
     checks::print(format_args!("without its zero, word by word"));
     write_differing(&old, &zeros);
 }
@@ -111,14 +118,5 @@ fn write_text(word: u32) {
     let mut room = [0u8; 47];
     if let Ok(n) = text::print(FLAGS, word, &mut room) {
         io::write_all(STDOUT_FILENO, checks::first(&room, n));
-    }
-}
-
-fn bench() -> Bench {
-    Bench {
-        flags: FLAGS,
-        sm: true,
-        za: true,
-        vb: 16,
     }
 }

@@ -155,25 +155,14 @@ fn source(x: u32, quarter: bool, pair: bool, unsigned: bool) -> Operand
     ensures { GoodOperand result }
 {
     let drawn = high_bits(x);
-    if !quarter {
-        let by = Predication::By(Predicate(drawn / 32 % 16));
-        return operand(drawn % 32, drawn % 32, by, unsigned);
-    }
-    if pair {
-        return operand(
-            drawn % 31,
-            drawn % 31 + 1,
-            Predication::Unpredicated,
-            unsigned,
-        );
-    }
-    operand(drawn % 32, drawn % 32, Predication::Unpredicated, unsigned)
-}
-
-fn operand(low: u32, high: u32, predication: Predication, unsigned: bool) -> Operand
-    requires { (low < 32) × (high < 32) × GoodPredication predication }
-    ensures { GoodOperand result }
-{
+    let two = quarter & pair;
+    let low = if two { drawn % 31 } else { drawn % 32 };
+    let high = if two { low + 1 } else { low };
+    let predication = if quarter {
+        Predication::Unpredicated
+    } else {
+        Predication::By(Predicate(drawn / 32 % 16))
+    };
     Operand {
         low: Vector(low),
         high: Vector(high),
