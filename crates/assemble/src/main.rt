@@ -45,23 +45,21 @@ fn assemble(text: &[u8]) -> Counts
     ensures refused { result.refused ≡ count_over refused_after 0 (lines text.now) }
 {
     let mut counts = Counts::default();
-    let mut line_number: u64 = 0;
-    for line in text.split(|&byte| byte == b'\n') {
-        line_number = line_number.wrapping_add(1);
-        counts = take_line(counts, line_number, line);
+    for (i, line) in text.split(|&byte| byte == b'\n').enumerate() {
+        counts = take_line(counts, i, line);
     }
     counts
 }
 
 // Counts one line more, which is lent without its line feed, and writes its word or reports its refusal.
-fn take_line(counts: Counts, line_number: u64, line: &[u8]) -> Counts
+fn take_line(counts: Counts, i: usize, line: &[u8]) -> Counts
     ensures words { result.words ≡ words_after counts.words (assembled line.now) }
     ensures refused { result.refused ≡ refused_after counts.refused (assembled line.now) }
 {
     match assemble_line(line) {
         Ok(None) => counts,
         Ok(Some(w)) => take_word(counts, w),
-        Err(refusal) => take_refusal(counts, line_number, refusal),
+        Err(refusal) => take_refusal(counts, i, refusal),
     }
 }
 
@@ -115,10 +113,12 @@ fn write_word(counts: Counts, w: u32) -> bool {
     counts.written == counts.words && io::write_all(STDOUT_FILENO, &w.to_le_bytes())
 }
 
-fn take_refusal(counts: Counts, line_number: u64, refusal: Refusal) -> Counts
+// The first line is line 1.
+fn take_refusal(counts: Counts, i: usize, refusal: Refusal) -> Counts
     ensures words { result.words ≡ counts.words }
     ensures refused { result.refused ≡ sum counts.refused 1 }
 {
+    let line_number = i.wrapping_add(1);
     checks::eprint(format_args!("line {line_number}: refused {}\n", refusals::Told(refusal)));
     Counts {
         refused: counts.refused.wrapping_add(1),

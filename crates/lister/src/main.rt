@@ -73,10 +73,7 @@ fn put_end(place: Place, room: &mut [u8]) -> usize
     ensures answer { result ≡ length (end_for place) }
     ensures room_after { room.new ≡ end_for place ++ drop (length (end_for place)) room.old }
 {
-    match disassembly::finish(place, room) {
-        Ok(n) => n,
-        Err(_) => 0,
-    }
+    disassembly::finish(place, room).unwrap_or(0)
 }
 
 fn write(text: &[u8]) -> bool {

@@ -29,15 +29,6 @@ pub enum Unjudged {
     Unreadable,
 }
 
-impl From<InputError> for Unjudged {
-    fn from(error: InputError) -> Unjudged {
-        match error {
-            InputError::TooLong => Unjudged::TooLong,
-            InputError::Unreadable => Unjudged::Unreadable,
-        }
-    }
-}
-
 fn main(rt: HostRuntime) {
     let mut room = checks::input_room();
     if let Err(why) = judge_input(&rt, &mut room) {
@@ -47,7 +38,10 @@ fn main(rt: HostRuntime) {
 
 // Judges what is on standard input, and says what comes of it.
 fn judge_input(rt: &HostRuntime, room: &mut [u8]) -> Result<(), Unjudged> {
-    let n = checks::read_input(rt, room)?;
+    let n = checks::read_input(rt, room).map_err(|error| match error {
+        InputError::TooLong => Unjudged::TooLong,
+        InputError::Unreadable => Unjudged::Unreadable,
+    })?;
     let bytes = checks::first(room, n);
     let verdict = judge(bytes)?;
     pronounce(verdict, bytes.len() / 4);
@@ -117,7 +111,7 @@ fn count_words(n: usize) {
 }
 
 // Names each pair whose order matters, and answers whether there is one. What names a pair stands before `|`, so that it is done
-// in any case.
+// in any case. The loops count places: a pair is of two, and the definitions speak of the word at a place.
 fn name_pairs(bytes: &[u8]) -> bool
     ensures { result ≡ any_pair bytes.now (count_in bytes.now) }
 {
@@ -155,7 +149,7 @@ fn name_pair(j: usize, earlier: u32, i: usize, later: u32) -> bool
     matters
 }
 
-// Names each word that stays where it is, and answers whether there is one.
+// Names each word that stays where it is, and answers whether there is one. By places again, as the definitions speak of them.
 fn name_fixed_words(bytes: &[u8]) -> bool
     ensures { result ≡ any_fixed bytes.now (count_in bytes.now) }
 {

@@ -17,6 +17,7 @@ const PIXEL: usize = 4;
 
 const LONGEST: usize = 262159;
 
+// `replay` has one like it: what is done with the file and what is said differ, and one function for both would be no plainer.
 fn main(rt: HostRuntime) {
     let mut input = checks::input_room();
     match checks::read_input(&rt, &mut input) {
@@ -53,7 +54,8 @@ fn image_room() -> [u8; LONGEST]
     [0; LONGEST]
 }
 
-// Reads a file, puts the image of its ZA at the start of room, and answers how many bytes that has.
+// Reads a file, puts the image of its ZA at the start of room, and answers how many bytes that has. The buffers come one by one:
+// `capture` takes them so, and would have a struct of them taken apart again at once.
 fn show_file(
     file: &[u8],
     words: &mut [u32],

@@ -24,6 +24,7 @@ pub struct Ran {
     pub length: usize,
 }
 
+// `picture` has one like it: what is done with the file and what is said differ, and one function for both would be no plainer.
 fn main(rt: HostRuntime) {
     let mut input = checks::input_room();
     match checks::read_input(&rt, &mut input) {
@@ -49,6 +50,7 @@ fn replay(file: &[u8]) {
         Ok(ran) => {
             let made = checks::first(&room, ran.length);
             write_bench(ran.bench);
+            // A capture's words fit, so this cuts none; it gives the slice its bound.
             write_end(&words[..ran.words.min(words.len())], ran.ended);
             write_changes(ran.bench.vb, file, made);
             if !io::write_all(STDOUT_FILENO, made) {
@@ -58,7 +60,8 @@ fn replay(file: &[u8]) {
     }
 }
 
-// Reads a file, runs it, and puts it with ZA as the run left it at the start of room.
+// Reads a file, runs it, and puts it with ZA as the run left it at the start of room. The buffers come one by one, here and below:
+// `capture` and `machine` take them so, and would have a struct of them taken apart again at once.
 fn replay_file(
     file: &[u8],
     words: &mut [u32],

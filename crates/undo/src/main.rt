@@ -64,6 +64,8 @@ fn tally_at(vb: usize) -> Tally
     )
 }
 
+// The bench and the buffers come one by one, here and below: `machine` takes them so, and would have a struct of them taken
+// apart again at once.
 fn tally_lists(bench: Bench, z: &mut [u8], p: &mut [u8], za: &mut [u8], start: &mut [u8]) -> Tally {
     let mut t = Tally::default();
     for seed in 0..LISTS {
@@ -130,10 +132,7 @@ fn accepted(words: &[u32]) -> u64 {
 
 // With both modes on, a word is accepted if decode accepts it.
 fn is_accepted(word: u32) -> bool {
-    match isa::decode(ALL_FEATURES, word) {
-        Ok(_) => true,
-        Err(_) => false,
-    }
+    isa::decode(ALL_FEATURES, word).is_ok()
 }
 
 fn draw(x: u32, words: &mut [u32]) {
