@@ -390,7 +390,8 @@ fn tile_number(i: Instruction) -> u32 {
     }
 }
 
-// Executes a word at VB 16 on a ZA whose bytes all start the same.
+// Executes a word at VB 16 on a ZA whose bytes all start the same. The parameters of the examples stand one by one: a call is
+// a row of its figures, and a struct would only name what the row shows.
 fn example(name: &str, bench: Bench, z: &[u8], p: &[u8], start: u8, word: u32) {
     let mut za = [start; 256];
     example_on(name, bench, z, p, &mut za, start, word);

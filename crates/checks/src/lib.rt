@@ -21,7 +21,7 @@ pub const STDOUT_FILENO: i32 = 1;
 pub const STDERR_FILENO: i32 = 2;
 
 // Why standard input was not read whole: it has more bytes than there is room for, or it can't be read to its end.
-#[derive(Debug, Clone, Copy, PartialEq, Eq)]
+#[derive(Clone, Copy)]
 pub enum InputError {
     TooLong,
     Unreadable,

@@ -16,6 +16,8 @@ impl Write for Output {
     }
 }
 
+// Two names, as the library's own are: each call says by name where the text goes, and none by a number.
+
 // Writes a text to standard output, and answers whether all of it was taken.
 pub fn print(text: impl fmt::Display + Drop) -> bool {
     write!(Output(STDOUT_FILENO), "{text}").is_ok()

@@ -19,6 +19,12 @@ pub fn no_sums() -> Sums
     }
 }
 
+impl Default for Sums {
+    fn default() -> Sums {
+        no_sums()
+    }
+}
+
 impl Sums {
     // The counts with one sum more, but for 0: nothing is missing.
     pub fn with_sum(self, sum: u32) -> Sums

@@ -211,9 +211,11 @@ fn set_pattern(s: &mut [u8], width: usize, row: usize, pattern: Pattern) {
 impl Pattern {
     fn byte(self, i: usize) -> u8 {
         match self {
-            Pattern::Bytes(even, odd) => { if i % 2 == 0 { even } else { odd } }
+            Pattern::Bytes(even, _) if i % 2 == 0 => even,
+            Pattern::Bytes(_, odd) => odd,
             Pattern::Ramp => (i % 256) as u8,
-            Pattern::HalfwordRamp => { if i % 2 == 0 { (i / 2 % 256) as u8 } else { 0 } }
+            Pattern::HalfwordRamp if i % 2 == 0 => (i / 2 % 256) as u8,
+            Pattern::HalfwordRamp => 0,
         }
     }
 }

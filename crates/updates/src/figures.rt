@@ -15,7 +15,7 @@ impl Tally {
         checks::count("agreed: ", self.agreed);
     }
 
-    // The tile element of a case that starts at a byte of ZA.
+    // The tile element of a case that starts at a byte of ZA. The parameters stand one by one: a call is a row of its figures.
     pub(crate) fn element(&mut self, c: Case, what: &str, za: &[u8], byte: usize, expected: u64) {
         let size = if c.wide { 8 } else { 4 };
         self.compared(

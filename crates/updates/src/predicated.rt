@@ -4,10 +4,10 @@ use crate::figures::Tally;
 use crate::{bench, figures, sources};
 
 pub(crate) fn all(t: &mut Tally) {
-    sources::signs32(t, bench::predicated(16, false, 0), 0);
-    sources::signs32(t, bench::predicated(32, false, 3), 96);
-    sources::signs64(t, bench::predicated(16, true, 0), 0);
-    sources::signs64(t, bench::predicated(32, true, 7), 224);
+    sources::all_signs(t, bench::predicated(16, false, 0), 0);
+    sources::all_signs(t, bench::predicated(32, false, 3), 96);
+    sources::all_signs(t, bench::predicated(16, true, 0), 0);
+    sources::all_signs(t, bench::predicated(32, true, 7), 224);
     ramps(t);
     activity32(t, bench::predicated(16, false, 0), 16 * 4);
     activity32(t, bench::predicated(32, false, 0), 32 * 4);
@@ -47,6 +47,7 @@ fn run_under(c: Case, pn: u16, pm: u16, za: &mut [u8]) {
     bench::run(c, &z, &p, za);
 }
 
+// The parameters of this and the other figures stand one by one: a call is a row of its figures, as the documents give them.
 fn under(t: &mut Tally, c: Case, what: &str, pn: u16, pm: u16, byte: usize, expected: u64) {
     let mut za = [0u8; 1024];
     run_under(c, pn, pm, &mut za);

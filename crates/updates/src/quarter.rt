@@ -12,10 +12,10 @@ pub struct Corners(pub usize, pub usize, pub usize);
 pub struct Quarters(pub u64, pub u64, pub u64, pub u64);
 
 pub(crate) fn all(t: &mut Tally) {
-    sources::signs32(t, bench::quarter(16, false), 0);
-    sources::signs32(t, bench::quarter(32, false), 0);
-    sources::signs64(t, bench::quarter(16, true), 0);
-    sources::signs64(t, bench::quarter(32, true), 0);
+    sources::all_signs(t, bench::quarter(16, false), 0);
+    sources::all_signs(t, bench::quarter(32, false), 0);
+    sources::all_signs(t, bench::quarter(16, true), 0);
+    sources::all_signs(t, bench::quarter(32, true), 0);
     ramps(t);
     // Half of 4 rows and columns of 4 bytes, of 8, and of 2 and of 4 of 8 bytes
     pairs(t, bench::quarter(16, false), Corners(8, 128, 136));

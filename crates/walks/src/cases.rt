@@ -42,6 +42,7 @@ impl fmt::Display for Kind {
 }
 
 // Fills the buffers for a case from the stream that its number starts, ZA's three alike, and draws its outer product.
+// A struct over the lent buffers would be no plainer: each function would have to promise too that it keeps the references.
 pub(crate) fn draw(
     kind: Kind,
     n: u32,
