@@ -287,6 +287,7 @@ fn captures_written(z: &[u8], p: &[u8]) {
     written("no room", 7, true, true, z, p, &mut short);
 }
 
+// The parameters here and below are those of C's functions, one by one.
 fn written(
     name: &str,
     flags: u32,
