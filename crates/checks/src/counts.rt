@@ -2,7 +2,7 @@
 ghost use Rattle.std.specs.Prelude.{◌≡◌, length};
 ghost use Rattle.checks.specs.Tally.{with_line, has_at, differences};
 
-use crate::{Outcome, Tally, print};
+use crate::{Outcome, STDOUT_FILENO, Tally, print};
 
 impl Tally {
     // The tally with one line more.
@@ -28,18 +28,19 @@ impl Tally {
     }
 
     // Writes the tally, the lines under the name given. Malformed lines show only if there are any.
-    pub fn report(self, name: &str) {
+    pub fn report(self, name: &[u8]) {
         count(name, self.lines);
-        count("agreed: ", self.agreed);
+        count(b"agreed: ", self.agreed);
         if self.malformed > 0 {
-            count("malformed: ", self.malformed);
+            count(b"malformed: ", self.malformed);
         }
     }
 }
 
-// Writes a line: a name and a number.
-pub fn count(name: &str, n: u64) {
-    print(format_args!("{name}{n}\n"));
+// Writes a line: a name, which may be any bytes, and a number.
+pub fn count(name: &[u8], n: u64) {
+    io::write_all(STDOUT_FILENO, name);
+    print(format_args!("{n}\n"));
 }
 
 // How many of a's places b hasn't alike.

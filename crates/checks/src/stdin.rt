@@ -24,6 +24,7 @@ pub fn read_input(rt: &HostRuntime, room: &mut [u8]) -> Result<usize, InputError
     let mut input = rt.stdin();
     let mut chunk = io::large_buffer();
     let mut n = 0;
+    // No count to take a `for` over: the input says when it ends.
     loop {
         let more = input.read(&mut chunk).map_err(|_| InputError::Unreadable)?;
         if more == 0 {

@@ -19,7 +19,7 @@ fn main() {
         checks::print("input too long\n");
         return;
     }
-    compare(&input[..n]).report("lists: ");
+    compare(&input[..n]).report(b"lists: ");
 }
 
 fn compare(input: &[u8]) -> Tally {

@@ -62,9 +62,8 @@ impl Listing {
 
     // Counts a word's line, if the word is listed.
     fn list(&mut self, word: u32, room: &mut [u8]) {
-        match text::print(isa::ALL_FLAGS, word, room) {
-            Ok(n) => self.count(word, checks::first(room, n)),
-            Err(_) => {}
+        if let Ok(n) = text::print(isa::ALL_FLAGS, word, room) {
+            self.count(word, checks::first(room, n));
         }
     }
 

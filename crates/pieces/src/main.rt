@@ -93,6 +93,7 @@ fn sum_of(bytes: &[u8], size: usize, room: &mut [u8]) -> Sum {
         sum: Sum::default(),
     };
     let mut rest = bytes;
+    // No chunks to take a `for` over: the room says how much of a piece is taken.
     while !rest.is_empty() {
         listing.list(b"", room);
         let taken = listing.list(checks::first(rest, size), room);
@@ -119,9 +120,8 @@ impl Listing {
 
     // Lists the end, where the room holds it.
     fn finish(&mut self, room: &mut [u8]) {
-        match disassembly::finish(self.place, room) {
-            Ok(n) => self.sum.add(checks::first(room, n)),
-            Err(_) => {}
+        if let Ok(n) = disassembly::finish(self.place, room) {
+            self.sum.add(checks::first(room, n));
         }
     }
 }

@@ -108,7 +108,7 @@ fn run_and_write(
     })
 }
 
-// The bench: flags with their features, modes, vector length.
+// The bench: flags with their features, modes, vector length. A space stands before each feature, where `refusals` has an "and".
 fn write_bench(bench: Bench) {
     checks::eprint(format_args!("flags {}", bench.flags));
     for (flag, name) in [(1, "SME"), (2, "I16I64"), (4, "MOP4"), (8, "SME2")] {
@@ -151,7 +151,7 @@ fn write_refused(r: Refusal) {
 // The text of a word that is listed, whatever features are on.
 fn write_text(word: u32) {
     let mut room = [0u8; 47];
-    if let Ok(n) = text::print(15, word, &mut room) {
+    if let Ok(n) = text::print(isa::ALL_FLAGS, word, &mut room) {
         checks::eprint(format_args!(", "));
         io::write_all(STDERR_FILENO, checks::first(&room, n));
     }

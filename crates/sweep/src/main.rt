@@ -36,22 +36,22 @@ fn main() {
 
 fn report(flags: u32) {
     let t = sweep(flags);
-    count("flags ", flags as u64);
-    count("predicated 32: ", t.predicated32);
-    count("predicated 64: ", t.predicated64);
-    count("quarter 32: ", t.quarter32);
-    count("quarter 64: ", t.quarter64);
-    count("zero: ", t.zero);
+    count(b"flags ", flags as u64);
+    count(b"predicated 32: ", t.predicated32);
+    count(b"predicated 64: ", t.predicated64);
+    count(b"quarter 32: ", t.quarter32);
+    count(b"quarter 64: ", t.quarter64);
+    count(b"zero: ", t.zero);
     let predicated = t.predicated32.wrapping_add(t.predicated64);
     let quarter = t.quarter32.wrapping_add(t.quarter64);
     let base = predicated.wrapping_add(quarter).wrapping_add(t.zero);
-    count("document 01's table: ", base);
-    count("predicated 2-way: ", t.predicated_two_way);
-    count("quarter 2-way: ", t.quarter_two_way);
+    count(b"document 01's table: ", base);
+    count(b"predicated 2-way: ", t.predicated_two_way);
+    count(b"quarter 2-way: ", t.quarter_two_way);
     let two_way = t.predicated_two_way.wrapping_add(t.quarter_two_way);
-    count("total: ", base.wrapping_add(two_way));
-    count("encoded to another word: ", t.changed);
-    count("checked otherwise: ", t.otherwise);
+    count(b"total: ", base.wrapping_add(two_way));
+    count(b"encoded to another word: ", t.changed);
+    count(b"checked otherwise: ", t.otherwise);
     t.sums.report();
 }
 

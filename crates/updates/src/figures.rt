@@ -11,8 +11,8 @@ pub struct Tally {
 
 impl Tally {
     pub(crate) fn report(self) {
-        checks::count("figures: ", self.figures);
-        checks::count("agreed: ", self.agreed);
+        checks::count(b"figures: ", self.figures);
+        checks::count(b"agreed: ", self.agreed);
     }
 
     // The tile element of a case that starts at a byte of ZA. The parameters stand one by one: a call is a row of its figures.
@@ -38,10 +38,7 @@ impl Tally {
 
     // Byte i, under what is told of it with its place; 1 past the end.
     pub(crate) fn byte(&mut self, what: &str, s: &[u8], i: usize, expected: u64) {
-        let value = match s.get(i) {
-            Some(&byte) => u64::from(byte),
-            None => 1,
-        };
+        let value = s.get(i).map_or(1, |&byte| u64::from(byte));
         self.number(format_args!("{what}{i}"), value, expected);
     }
 

@@ -75,6 +75,7 @@ fn tally_of(rt: &HostRuntime, kind: Kind) -> Tally
     t
 }
 
+// The lent buffers stand one by one here and below, as in `cases::draw`.
 fn tally_cases(
     rt: &HostRuntime,
     kind: Kind,

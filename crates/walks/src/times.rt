@@ -80,13 +80,10 @@ fn best<F: FnMut()>(rt: &HostRuntime, updates: u64, mut update: F) -> u64
 
 // The processor time so far, 0 if it can't be had.
 fn microseconds(rt: &HostRuntime) -> u64 {
-    match rt.process_cpu_time() {
-        Ok(t) => {
-            let seconds = t.as_secs();
-            seconds
-                .wrapping_mul(1_000_000)
-                .wrapping_add(t.subsec_micros() as u64)
-        }
-        Err(_) => 0,
-    }
+    rt.process_cpu_time().map_or(0, |t| {
+        let seconds = t.as_secs();
+        seconds
+            .wrapping_mul(1_000_000)
+            .wrapping_add(t.subsec_micros() as u64)
+    })
 }

@@ -34,7 +34,7 @@ fn main() {
 }
 
 fn report(c: Compared) {
-    c.tally.report("lines: ");
+    c.tally.report(b"lines: ");
     c.sums.report();
 }
 
@@ -55,10 +55,7 @@ fn compare(list: &[u8]) -> Compared {
 
 // What the word of a line misses where no feature is on, if the line has one.
 fn missed_by(line: &[u8]) -> u32 {
-    match word_of(line) {
-        Some(w) => missing(0, w),
-        None => 0,
-    }
+    word_of(line).map_or(0, |w| missing(0, w))
 }
 
 // What comes of a line, which is lent without its line feed.
@@ -137,10 +134,7 @@ fn holds(room: &[u8], n: usize, listed: &[u8]) -> bool {
 // Whether a room of n bytes gets the listed text too.
 fn exact_room_agrees(w: u32, n: usize, listed: &[u8]) -> bool {
     let mut room = [FILL; TEXT_ROOM];
-    match print_into(w, n, &mut room) {
-        Ok(m) => holds(&room, m, listed),
-        Err(_) => false,
-    }
+    print_into(w, n, &mut room).is_ok_and(|m| holds(&room, m, listed))
 }
 
 // Whether a room of n - 1 bytes is refused as too short, and left as it was.
