@@ -2,9 +2,9 @@
 use mathlib.Core.Path.{◌≡◌, ◌∙◌, ap, refl}
 use mathlib.Core.Bool.{Bool, true, false, cond, ◌&&◌}
 use mathlib.Core.List.{[], ◌∷◌}
-use Prim.Native.Nat.{ℕ}
+use Prim.Native.Nat.{ℕ, ◌+◌}
 use lib.Dec.{eqb}
-use Rattle.std.specs.List.{list_all, slice_split, onto_first}
+use Rattle.std.specs.List.{list_all, slice_split, onto_first, enumerate_from}
 use Rattle.std.specs.Prelude.{List, ◌++◌, map, Ok, None}
 use Rattle.text.specs.Spelling.{Text}
 use Rattle.assemble.specs.Kernel.{Assembled, with_byte, lines, is_space, is_blank, assembled, count_over}
@@ -51,3 +51,15 @@ count_cut f h n t = go (slice_split is_feed t) (lines t) (cut t)
 pub blank-all : (t : Text) → list_all is_space t ≡ is_blank t
 blank-all [] = refl
 blank-all (b ∷ t) = ap (λ (r : Bool). is_space b && r) (blank-all t)
+
+-- ---- items that are numbered, without their numbers
+items : {B : Type 0} (n : ℕ) (ys : List B) → map (λ p. p.1) (enumerate_from n ys) ≡ ys
+items n [] = refl
+items n (y ∷ ys) = ap (λ (zs : List _). y ∷ zs) (items (n + 1) ys)
+
+unnumbered : {A B : Type 0} (v : A → B) (xs : List (ℕ × A)) → map (λ p. v p.1) xs ≡ map (λ p. p.1) (map {B = ℕ × B} (λ p. (p.0, v p.1)) xs)
+unnumbered v [] = refl
+unnumbered v (x ∷ xs) = ap (λ (zs : List _). v x.1 ∷ zs) (unnumbered v xs)
+
+pub without_numbers : {A B : Type 0} (v : A → B) (xs : List (ℕ × A)) (ys : List B) → map {B = ℕ × B} (λ p. (p.0, v p.1)) xs ≡ enumerate_from 0 ys → map (λ p. v p.1) xs ≡ ys
+without_numbers v xs ys e = unnumbered v xs ∙ ap (map (λ p. p.1)) e ∙ items 0 ys

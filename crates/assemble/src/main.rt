@@ -8,7 +8,7 @@ ghost use Rattle.std.specs.Prelude.{◌≡◌};
 ghost use Rattle.checks.specs.Tally.{sum};
 ghost use Rattle.assemble.specs.Kernel.{lines, is_space, is_blank, is_comment, assembled, words_after, refused_after, count_over};
 
-use checks::{InputError, STDERR_FILENO, STDOUT_FILENO};
+use checks::{InputError, STDOUT_FILENO};
 use isa::Refusal;
 
 // How many lines came to words, how many of these were written, and how many lines were refused.
@@ -24,12 +24,16 @@ fn main(rt: HostRuntime) {
     match checks::read_input(&rt, &mut text) {
         Ok(n) => report(assemble(checks::first(&text, n))),
         Err(InputError::TooLong) => {
-            tell_number(b"the input has more bytes than ", checks::INPUT_ROOM as u64);
-            tell(b", and is not assembled\n");
+            checks::eprint(format_args!(
+                "the input has more bytes than {}, and is not assembled\n",
+                checks::INPUT_ROOM
+            ));
             report(Counts::default());
         }
         Err(InputError::Unreadable) => {
-            tell(b"the input can't be read to its end, and is not assembled\n");
+            checks::eprint(format_args!(
+                "the input can't be read to its end, and is not assembled\n"
+            ));
             report(Counts::default());
         }
     }
@@ -41,23 +45,21 @@ fn assemble(text: &[u8]) -> Counts
     ensures refused { result.refused ≡ count_over refused_after 0 (lines text.now) }
 {
     let mut counts = Counts::default();
-    let mut line_number: u64 = 0;
-    for line in text.split(|&byte| byte == b'\n') {
-        line_number = line_number.wrapping_add(1);
-        counts = take_line(counts, line_number, line);
+    for (i, line) in text.split(|&byte| byte == b'\n').enumerate() {
+        counts = take_line(counts, i, line);
     }
     counts
 }
 
 // Counts one line more, which is lent without its line feed, and writes its word or reports its refusal.
-fn take_line(counts: Counts, line_number: u64, line: &[u8]) -> Counts
+fn take_line(counts: Counts, i: usize, line: &[u8]) -> Counts
     ensures words { result.words ≡ words_after counts.words (assembled line.now) }
     ensures refused { result.refused ≡ refused_after counts.refused (assembled line.now) }
 {
     match assemble_line(line) {
         Ok(None) => counts,
         Ok(Some(w)) => take_word(counts, w),
-        Err(refusal) => take_refusal(counts, line_number, refusal),
+        Err(refusal) => take_refusal(counts, i, refusal),
     }
 }
 
@@ -111,14 +113,13 @@ fn write_word(counts: Counts, w: u32) -> bool {
     counts.written == counts.words && io::write_all(STDOUT_FILENO, &w.to_le_bytes())
 }
 
-fn take_refusal(counts: Counts, line_number: u64, refusal: Refusal) -> Counts
+// The first line is line 1.
+fn take_refusal(counts: Counts, i: usize, refusal: Refusal) -> Counts
     ensures words { result.words ≡ counts.words }
     ensures refused { result.refused ≡ sum counts.refused 1 }
 {
-    tell_number(b"line ", line_number);
-    tell(b": refused ");
-    refusals::write_refusal(STDERR_FILENO, refusal);
-    tell(b"\n");
+    let line_number = i.wrapping_add(1);
+    checks::eprint(format_args!("line {line_number}: refused {}\n", refusals::Told(refusal)));
     Counts {
         refused: counts.refused.wrapping_add(1),
         ..counts
@@ -128,22 +129,15 @@ fn take_refusal(counts: Counts, line_number: u64, refusal: Refusal) -> Counts
 // The counts come last. Words that are not all of the kernel must not pass for it.
 fn report(counts: Counts) {
     if counts.refused != 0 {
-        tell(b"the words are not the whole kernel: lines were refused\n");
+        checks::eprint(format_args!("the words are not the whole kernel: lines were refused\n"));
     }
     if counts.written != counts.words {
-        tell(b"the words are not the whole kernel: standard output did not take them all\n");
+        checks::eprint(format_args!(
+            "the words are not the whole kernel: standard output did not take them all\n"
+        ));
     }
-    tell_number(b"words written: ", counts.written);
-    tell_number(b", lines refused: ", counts.refused);
-    tell(b"\n");
-}
-
-// A text and a number, on standard error.
-fn tell_number(text: &[u8], n: u64) {
-    tell(text);
-    io::print_decimal(STDERR_FILENO, n);
-}
-
-fn tell(text: &[u8]) {
-    io::write_all(STDERR_FILENO, text);
+    checks::eprint(format_args!(
+        "words written: {}, lines refused: {}\n",
+        counts.written, counts.refused
+    ));
 }

@@ -8,6 +8,8 @@ ghost use Rattle.machine.specs.Lists.{most_words};
 use checks::STDOUT_FILENO;
 use isa::{Instruction, Refusal};
 use machine::Bench;
+use refusals::Told;
+use std::fmt;
 
 // Document 01's flags where it gives none.
 const FLAGS: u32 = 7;
@@ -132,13 +134,13 @@ fn two_way_sums() {
     let z = [0xFFu8; 512];
     let p = [0xFFu8; 32];
     let bench = with_flags(ALL_FEATURES);
-    example(b"smopa, 2-way", bench, &z, &p, 0, SMOPA_TWO_WAY);
-    example(b"umopa, 2-way", bench, &z, &p, 0, UMOPA_TWO_WAY);
-    example(b"umops, 2-way", bench, &z, &p, 0, UMOPS_TWO_WAY);
-    example(b"smop4s, 2-way", bench, &z, &p, 0, SMOP4S_TWO_WAY);
+    example("smopa, 2-way", bench, &z, &p, 0, SMOPA_TWO_WAY);
+    example("umopa, 2-way", bench, &z, &p, 0, UMOPA_TWO_WAY);
+    example("umops, 2-way", bench, &z, &p, 0, UMOPS_TWO_WAY);
+    example("smop4s, 2-way", bench, &z, &p, 0, SMOP4S_TWO_WAY);
     let even = [0x55u8; 32];
     example(
-        b"smopa, 2-way, even bits",
+        "smopa, 2-way, even bits",
         bench,
         &z,
         &even,
@@ -146,9 +148,9 @@ fn two_way_sums() {
         SMOPA_TWO_WAY,
     );
     let odd = [0xAAu8; 32];
-    example(b"smopa, 2-way, odd bits", bench, &z, &odd, 0, SMOPA_TWO_WAY);
+    example("smopa, 2-way, odd bits", bench, &z, &odd, 0, SMOPA_TWO_WAY);
     example(
-        b"smopa, 2-way, without sme2",
+        "smopa, 2-way, without sme2",
         with_flags(FLAGS),
         &z,
         &p,
@@ -161,44 +163,44 @@ fn two_way_sums() {
 fn addresses() {
     let p = [0xFFu8; 32];
     let mut z = [0u8; 512];
-    example(b"zero of every tile", on(), &z, &p, 0xFF, ZERO_ALL);
+    example("zero of every tile", on(), &z, &p, 0xFF, ZERO_ALL);
     z[8] = 1;
     z[16 + 12] = 1;
-    example(b"za1.s (2, 3)", on(), &z, &p, 0, UMOPA_ZA1);
+    example("za1.s (2, 3)", on(), &z, &p, 0, UMOPA_ZA1);
     z[16 + 12] = 0;
     z[16 + 8] = 1;
-    example(b"za5.d (1, 1)", on(), &z, &p, 0, UMOPA_ZA5_WIDE);
+    example("za5.d (1, 1)", on(), &z, &p, 0, UMOPA_ZA5_WIDE);
 }
 
 fn sums() {
     let z = [0xFFu8; 512];
     let p = [0xFFu8; 32];
-    example(b"sumopa", on(), &z, &p, 0, SUMOPA);
-    example(b"sumops", on(), &z, &p, 0, SUMOPS);
-    example(b"umopa", on(), &z, &p, 0, UMOPA);
+    example("sumopa", on(), &z, &p, 0, SUMOPA);
+    example("sumops", on(), &z, &p, 0, SUMOPS);
+    example("umopa", on(), &z, &p, 0, UMOPA);
     let mut without_p0 = [0xFFu8; 32];
     without_p0[0] = 0;
     without_p0[1] = 0;
-    example(b"umopa, pn empty", on(), &z, &without_p0, 0, UMOPA_P0_P1);
+    example("umopa, pn empty", on(), &z, &without_p0, 0, UMOPA_P0_P1);
     let mut without_p1 = [0xFFu8; 32];
     without_p1[2] = 0;
     without_p1[3] = 0;
-    example(b"umopa, pm empty", on(), &z, &without_p1, 0, UMOPA_P0_P1);
+    example("umopa, pm empty", on(), &z, &without_p1, 0, UMOPA_P0_P1);
 }
 
 fn carries() {
     let z = plus_one();
     let p = [0xFFu8; 32];
-    example(b"ffffffff plus 1", on(), &z, &p, 0xFF, UMOPA);
-    in_turn(b"za0.s then za0.d", &z, &p, UMOPA, UMOPA_WIDE);
-    in_turn(b"za0.d then za0.s", &z, &p, UMOPA_WIDE, UMOPA);
+    example("ffffffff plus 1", on(), &z, &p, 0xFF, UMOPA);
+    in_turn("za0.s then za0.d", &z, &p, UMOPA, UMOPA_WIDE);
+    in_turn("za0.d then za0.s", &z, &p, UMOPA_WIDE, UMOPA);
 }
 
 fn modes() {
     let z = plus_one();
     let p = [0xFFu8; 32];
     example(
-        b"zero, streaming off",
+        "zero, streaming off",
         modes_of(false, true),
         &z,
         &p,
@@ -206,7 +208,7 @@ fn modes() {
         ZERO_ALL,
     );
     example(
-        b"smopa, both off",
+        "smopa, both off",
         modes_of(false, false),
         &z,
         &p,
@@ -214,7 +216,7 @@ fn modes() {
         SMOPA,
     );
     example(
-        b"zero, both off",
+        "zero, both off",
         modes_of(false, false),
         &z,
         &p,
@@ -231,7 +233,7 @@ fn features() {
     let p = [0xFFu8; 32];
     features_executed(&z, &p);
     list_example(
-        b"zero, umopa, then smopa, 2-way",
+        "zero, umopa, then smopa, 2-way",
         &z,
         &p,
         &[ZERO_ALL, UMOPA, SMOPA_TWO_WAY],
@@ -240,11 +242,11 @@ fn features() {
 
 // 8 comes before the modes are tested.
 fn features_executed(z: &[u8], p: &[u8]) {
-    example(b"umopa, flags 14", with_flags(14), z, p, 0xFF, UMOPA);
-    example(b"usmop4s, flags 0", with_flags(0), z, p, 0xFF, USMOP4S_WIDE);
-    example(b"usmop4s, flags 4", with_flags(4), z, p, 0xFF, USMOP4S_WIDE);
+    example("umopa, flags 14", with_flags(14), z, p, 0xFF, UMOPA);
+    example("usmop4s, flags 0", with_flags(0), z, p, 0xFF, USMOP4S_WIDE);
+    example("usmop4s, flags 4", with_flags(4), z, p, 0xFF, USMOP4S_WIDE);
     example(
-        b"smopa, 2-way, both off",
+        "smopa, 2-way, both off",
         modes_of(false, false),
         z,
         p,
@@ -258,12 +260,12 @@ fn lists() {
     let z = plus_one();
     let p = [0xFFu8; 32];
     let words = zero_and_umopas();
-    list_example(b"65536 words", &z, &p, all_but_last(&words));
-    list_example(b"65537 words", &z, &p, &words);
-    list_example(b"umopa, then zero", &z, &p, &[UMOPA, ZERO_ALL]);
-    list_example(b"zero of za0.d, umopa", &z, &p, &[ZERO_ZA0_WIDE, UMOPA]);
+    list_example("65536 words", &z, &p, all_but_last(&words));
+    list_example("65537 words", &z, &p, &words);
+    list_example("umopa, then zero", &z, &p, &[UMOPA, ZERO_ALL]);
+    list_example("zero of za0.d, umopa", &z, &p, &[ZERO_ZA0_WIDE, UMOPA]);
     list_example(
-        b"zero of za0.d and of za4.d, umopa",
+        "zero of za0.d and of za4.d, umopa",
         &z,
         &p,
         &[ZERO_ZA0_WIDE, ZERO_ZA4_WIDE, UMOPA],
@@ -285,7 +287,7 @@ fn lengths() {
     let p15 = [0u8; 30];
     let mut za15 = [0xFFu8; 225];
     example_on(
-        b"vb 15",
+        "vb 15",
         length_of(15),
         &z15,
         &p15,
@@ -297,7 +299,7 @@ fn lengths() {
     let p17 = [0u8; 34];
     let mut za17 = [0xFFu8; 289];
     example_on(
-        b"vb 17",
+        "vb 17",
         length_of(17),
         &z17,
         &p17,
@@ -349,8 +351,7 @@ fn meanings() {
         Refusal::Version,
         Refusal::Format,
     ] {
-        refused(r);
-        io::write_all(STDOUT_FILENO, b"\n");
+        checks::print(format_args!("{}\n", Refused(r)));
     }
 }
 
@@ -363,118 +364,108 @@ fn texts_of(flags: u32, words: &[u32]) {
 
 // A word's text, or its refusal.
 fn text_of(flags: u32, word: u32) {
-    word_name(flags, word);
+    checks::print(format_args!("{word:08x}, flags {flags}: "));
     let mut room = [0u8; 47];
     match text::print(flags, word, &mut room) {
         Ok(n) => io::write_all(STDOUT_FILENO, checks::first(&room, n)),
-        Err(r) => refused(r),
+        Err(r) => checks::print(format_args!("{}", Refused(r))),
     };
-    io::write_all(STDOUT_FILENO, b"\n");
+    checks::print("\n");
 }
 
 // The tile of an outer product.
 fn tile_of(flags: u32, word: u32) {
-    word_name(flags, word);
+    checks::print(format_args!("{word:08x}, flags {flags}: "));
     match isa::decode(flags, word) {
-        Ok(i) => decimal(b"tile ", tile_number(i)),
-        Err(r) => refused(r),
+        Ok(i) => checks::print(format_args!("tile {}\n", tile_number(i))),
+        Err(r) => checks::print(format_args!("{}\n", Refused(r))),
     };
-    io::write_all(STDOUT_FILENO, b"\n");
 }
 
-fn tile_number(i: Instruction) -> u64 {
+fn tile_number(i: Instruction) -> u32 {
     match i {
-        Instruction::Predicated(p) => p.tile.0 as u64,
-        Instruction::Quarter(q) => q.tile.0 as u64,
+        Instruction::Predicated(p) => p.tile.0,
+        Instruction::Quarter(q) => q.tile.0,
         Instruction::Zero(_) => 8,
     }
 }
 
-// Executes a word at VB 16 on a ZA whose bytes all start the same.
-fn example(name: &[u8], bench: Bench, z: &[u8], p: &[u8], start: u8, word: u32) {
+// Executes a word at VB 16 on a ZA whose bytes all start the same. The parameters of the examples stand one by one: a call is
+// a row of its figures, and a struct would only name what the row shows.
+fn example(name: &str, bench: Bench, z: &[u8], p: &[u8], start: u8, word: u32) {
     let mut za = [start; 256];
     example_on(name, bench, z, p, &mut za, start, word);
 }
 
 // Executes a word on ZA: what it answers, which bytes differ then from the start, and element (0, 0) of ZA0.S.
-fn example_on(name: &[u8], bench: Bench, z: &[u8], p: &[u8], za: &mut [u8], start: u8, word: u32) {
+fn example_on(name: &str, bench: Bench, z: &[u8], p: &[u8], za: &mut [u8], start: u8, word: u32) {
     let outcome = machine::execute(bench, z, p, za, word);
-    io::write_all(STDOUT_FILENO, name);
-    answer(b": ", outcome);
     let n = changed(za, start);
-    decimal(b", changed ", n as u64);
+    checks::print(format_args!("{name}: {}, changed {n}", Answer(outcome)));
     if 0 < n {
-        decimal(b" from ", first_changed(za, start) as u64);
+        checks::print(format_args!(" from {}", first_changed(za, start)));
     }
     let e = element32(za, 0);
-    hex(b", za0.s (0, 0) ", e);
-    decimal(b" = ", e);
-    io::write_all(STDOUT_FILENO, b"\n");
+    checks::print(format_args!(", za0.s (0, 0) {e:08x} = {e}\n"));
 }
 
 // Executes two words on a ZA whose ZA0.D (0, 0) is 00000000ffffffff; that element then.
-fn in_turn(name: &[u8], z: &[u8], p: &[u8], one: u32, two: u32) {
+fn in_turn(name: &str, z: &[u8], p: &[u8], one: u32, two: u32) {
     let mut za = [0u8; 256];
     za[..4].fill(0xFF);
     in_turn_on(name, z, p, &mut za, one, two);
 }
 
-fn in_turn_on(name: &[u8], z: &[u8], p: &[u8], za: &mut [u8], one: u32, two: u32) {
+fn in_turn_on(name: &str, z: &[u8], p: &[u8], za: &mut [u8], one: u32, two: u32) {
     let first = machine::execute(on(), z, p, za, one);
     let second = machine::execute(on(), z, p, za, two);
-    io::write_all(STDOUT_FILENO, name);
-    answer(b": ", first);
-    answer(b", ", second);
-    hex(b", ", element32(za, 4));
-    hex(b"", element32(za, 0));
-    io::write_all(STDOUT_FILENO, b"\n");
+    checks::print(format_args!(
+        "{name}: {}, {}, {:08x}{:08x}\n",
+        Answer(first),
+        Answer(second),
+        element32(za, 4),
+        element32(za, 0)
+    ));
 }
 
 // Runs a list from a ZA of zeros; its count, its answer and element (0, 0) of ZA0.S.
-fn list_example(name: &[u8], z: &[u8], p: &[u8], words: &[u32]) {
+fn list_example(name: &str, z: &[u8], p: &[u8], words: &[u32]) {
     let mut za = [0u8; 256];
     let ended = machine::run(on(), z, p, &mut za, words);
-    let outcome = ended.outcome;
-    io::write_all(STDOUT_FILENO, name);
-    decimal(b": count ", ended.count as u64);
-    answer(b", ", outcome);
-    decimal(b", za0.s (0, 0) ", element32(&za, 0));
-    io::write_all(STDOUT_FILENO, b"\n");
+    checks::print(format_args!(
+        "{name}: count {}, {}, za0.s (0, 0) {}\n",
+        ended.count,
+        Answer(ended.outcome),
+        element32(&za, 0)
+    ));
 }
 
 // 0, or the refusal.
-fn answer(before: &[u8], outcome: Result<(), Refusal>) -> bool {
-    io::write_all(STDOUT_FILENO, before);
-    match outcome {
-        Ok(()) => decimal(b"", 0),
-        Err(r) => refused(r),
+#[derive(Clone, Copy)]
+struct Answer(Result<(), Refusal>);
+
+impl fmt::Display for Answer {
+    fn fmt<W: fmt::Write>(&self, f: &mut fmt::Formatter<W>) -> fmt::Result {
+        match self.0 {
+            Ok(()) => write!(f, "0"),
+            Err(r) => write!(f, "{}", Refused(r)),
+        }
     }
 }
 
 // A refusal in words, and the sum beside 8.
-fn refused(r: Refusal) -> bool {
-    io::write_all(STDOUT_FILENO, b"refused ");
-    refusals::write_refusal(STDOUT_FILENO, r);
-    if isa::missing_in(r) == 0 {
-        return true;
+#[derive(Clone, Copy)]
+struct Refused(Refusal);
+
+impl fmt::Display for Refused {
+    fn fmt<W: fmt::Write>(&self, f: &mut fmt::Formatter<W>) -> fmt::Result {
+        write!(f, "refused {}", Told(self.0))?;
+        let missing = isa::missing_in(self.0);
+        if missing == 0 {
+            return Ok(());
+        }
+        write!(f, ", missing {missing}")
     }
-    decimal(b", missing ", isa::missing_in(r) as u64)
-}
-
-fn word_name(flags: u32, word: u32) {
-    io::print_hex(STDOUT_FILENO, word as u64, 8);
-    decimal(b", flags ", flags as u64);
-    io::write_all(STDOUT_FILENO, b": ");
-}
-
-fn decimal(before: &[u8], n: u64) -> bool {
-    io::write_all(STDOUT_FILENO, before);
-    io::print_decimal(STDOUT_FILENO, n)
-}
-
-fn hex(before: &[u8], n: u64) -> bool {
-    io::write_all(STDOUT_FILENO, before);
-    io::print_hex(STDOUT_FILENO, n, 8)
 }
 
 fn all_but_last(words: &[u32]) -> &[u32] {
@@ -492,9 +483,9 @@ fn first_changed(s: &[u8], value: u8) -> usize {
 }
 
 // Four bytes, little-endian.
-fn element32(s: &[u8], at: usize) -> u64 {
+fn element32(s: &[u8], at: usize) -> u32 {
     match s.get(at..) {
-        Some([a, b, c, d, ..]) => u64::from(u32::from_le_bytes([*a, *b, *c, *d])),
+        Some([a, b, c, d, ..]) => u32::from_le_bytes([*a, *b, *c, *d]),
         _ => 0,
     }
 }

@@ -46,10 +46,7 @@ const ZERO: u32 = 3;
 pub fn birdaghol_decode(flags: u32, word: u32) -> u64
     ensures { result ≡ decode_call flags word }
 {
-    match isa::check(flags, word) {
-        Ok(()) => 0,
-        Err(r) => refused(r),
-    }
+    refusal_of(isa::check(flags, word))
 }
 
 // Puts the description of a word at the start of fields: its kind, then the arguments of that kind's encode in their order.
@@ -278,7 +275,8 @@ fn contents_number(bench: Bench, words: usize) -> u64
     words as u64 * AT_WORDS + bench.vb as u64 * AT_VB + modes * AT_MODES + bench.flags as u64
 }
 
-// A refusal as it stands in an answer: its number, and above it what it hands back.
+// A refusal as it stands in an answer: its number, and above it what it hands back. A value is put in its place where it is made:
+// values differ in type, and one function for all would be no plainer.
 fn refused(r: Refusal) -> u64
     ensures { result ≡ answer 0 (some r) }
 {

@@ -1,4 +1,5 @@
-// Big-endian numbers in lent bytes, and runs of bytes and words between buffers.
+// Big-endian numbers in lent bytes, and runs of bytes and words between buffers. The numbers are `storage`'s but for the order of
+// their bytes, each by one call of its type's own method: no trait of the library has from_be_bytes.
 ghost use Rattle.std.specs.Prelude.{◌≡◌, ◌++◌, ◌+◌, ◌*◌, ◌≤◌, length, drop};
 ghost use Rattle.std.proofs.lemmas.List.Edits.{sets};
 ghost use Rattle.capture.specs.Format.{big4, word_bytes, number2};

@@ -2,7 +2,7 @@
 ghost use Rattle.std.specs.Prelude.{◌≡◌, length};
 ghost use Rattle.checks.specs.Tally.{with_line, has_at, differences};
 
-use crate::{Outcome, STDOUT_FILENO, Tally};
+use crate::{Outcome, Tally, print};
 
 impl Tally {
     // The tally with one line more.
@@ -28,25 +28,18 @@ impl Tally {
     }
 
     // Writes the tally, the lines under the name given. Malformed lines show only if there are any.
-    pub fn report(self, name: &[u8]) {
+    pub fn report(self, name: &str) {
         count(name, self.lines);
-        count(b"agreed: ", self.agreed);
+        count("agreed: ", self.agreed);
         if self.malformed > 0 {
-            count(b"malformed: ", self.malformed);
+            count("malformed: ", self.malformed);
         }
     }
 }
 
 // Writes a line: a name and a number.
-pub fn count(name: &[u8], n: u64) {
-    part(name, n);
-    io::write_all(STDOUT_FILENO, b"\n");
-}
-
-// The same without the line's end.
-pub fn part(name: &[u8], n: u64) {
-    io::write_all(STDOUT_FILENO, name);
-    io::print_decimal(STDOUT_FILENO, n);
+pub fn count(name: &str, n: u64) {
+    print(format_args!("{name}{n}\n"));
 }
 
 // How many of a's places b hasn't alike.

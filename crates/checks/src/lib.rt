@@ -2,11 +2,13 @@
 #![tactic(auto)]
 
 mod counts;
+mod output;
 mod stdin;
 mod stream;
 mod text;
 
-pub use counts::{count, differing, has, part};
+pub use counts::{count, differing, has};
+pub use output::{eprint, print};
 pub use stdin::{INPUT_ROOM, input_room, read_input};
 pub use stream::{generate, next};
 pub use text::{field_end, first, hexadecimal_of};
@@ -19,7 +21,7 @@ pub const STDOUT_FILENO: i32 = 1;
 pub const STDERR_FILENO: i32 = 2;
 
 // Why standard input was not read whole: it has more bytes than there is room for, or it can't be read to its end.
-#[derive(Debug, Clone, Copy, PartialEq, Eq)]
+#[derive(Clone, Copy)]
 pub enum InputError {
     TooLong,
     Unreadable,

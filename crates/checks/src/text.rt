@@ -19,12 +19,11 @@ pub fn field_end(text: &[u8], at: usize, last: u8) -> usize
     ensures answer { result ≡ at + field_length last (drop at text.now) }
     ensures bounds { (at ≤ result) × (result ≤ at + (length text.now - at)) }
 {
-    for end in at..text.len() {
-        if text[end] == last {
-            return end;
-        }
-    }
-    at.max(text.len())
+    let rest = &text[at.min(text.len())..];
+    at + rest
+        .iter()
+        .position(|&byte| byte == last)
+        .unwrap_or(rest.len())
 }
 
 // The first n bytes, or all if there are fewer.

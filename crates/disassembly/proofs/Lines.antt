@@ -5,13 +5,12 @@ use Rattle.std.proofs.Common.{◌≡◌, ℕ, zero, suc, ◌+◌, ◌-◌, ◌*�
 use mathlib.Core.Option.{none, some}
 use native.Mathlib.Nat.{mod-mod}
 use Rattle.std.specs.Prelude.{Err, Ok, Result}
-use Rattle.isa.specs.Table.{Feature, SME, I16I64, MOP4, SME2, all_flags, on}
+use Rattle.isa.specs.Table.{all_flags}
 use Rattle.isa.specs.Answers.{describe, absent, decode_of, decode_number}
-use Rattle.isa.specs.Claims.{FeaturesOn}
 use Rattle.isa.specs.declared.Instruction.{Instruction}
 use Rattle.isa.specs.declared.Refusal.{Refusal}
 use Rattle.isa.specs.declared.Refusal.TheVariants.{Unlisted}
-use Rattle.isa.proofs.Answers.{decode_refused}
+use Rattle.isa.proofs.Answers.{features_on, decode_refused}
 use Rattle.isa.proofs.Theorems.{decodes, accepted_in_range}
 use Rattle.text.specs.Ascii.{ascii}
 use Rattle.text.specs.Spelling.{spelling}
@@ -22,15 +21,6 @@ use Rattle.disassembly.specs.Listing.{hex_digit, hexadecimal, field, said, line_
 use Rattle.disassembly.specs.Pieces.{longest_line}
 
 -- ---- what is said of a word
-every_feature : (f : Feature) → on all_flags f ≡ true
-every_feature SME = refl
-every_feature I16I64 = refl
-every_feature MOP4 = refl
-every_feature SME2 = refl
-
-pub features_on : (w : ℕ) → FeaturesOn all_flags w
-features_on w e m q f n = every_feature f
-
 -- with every feature on, a word that is refused is not listed
 refused_unlisted : (w : ℕ) (r : Refusal) → decode_of all_flags w ≡ Err r → r ≡ Unlisted
 refused_unlisted w r p = go (absent (describe w)) (rw ((decodes all_flags w).missing_none.1 (features_on w)) at (decode_refused all_flags w r p))

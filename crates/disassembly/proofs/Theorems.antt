@@ -6,6 +6,7 @@ use native.Mathlib.Nat.{min-le_left, min-le_right, min-eq_left}
 use lib.Seq.{take-append_seam}
 use Rattle.isa.specs.Table.{all_flags}
 use Rattle.isa.specs.Answers.{describe, missing, decode_of}
+use Rattle.isa.proofs.Answers.{features_on}
 use Rattle.isa.proofs.Theorems.{decodes}
 use Rattle.text.proofs.Lengths.{longest_line_lem}
 use Rattle.disassembly.specs.Listing.{line, word_lines, end_line, listing}
@@ -15,7 +16,7 @@ use Rattle.disassembly.specs.declared.Begun.{Begun}
 use Rattle.disassembly.specs.declared.Begun.TheVariants.{Nothing, One, Two, Three}
 use Rattle.disassembly.specs.declared.Place.{Place}
 use Rattle.disassembly.proofs.Inputs.{begun_short}
-use Rattle.disassembly.proofs.Lines.{features_on, said-listed, said_unlisted, line-length, line_short}
+use Rattle.disassembly.proofs.Lines.{said-listed, said_unlisted, line-length, line_short}
 use Rattle.disassembly.proofs.Listings.{no_lines, no_words, lines_split, place_split, lines_short, begun_length, place_whole}
 
 -- ---- pieces in turn

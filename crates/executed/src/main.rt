@@ -16,10 +16,10 @@ fn main() {
     let mut input = checks::input_room();
     let n = io::read_full(STDIN_FILENO, &mut input);
     if n == checks::INPUT_ROOM {
-        io::write_all(STDOUT_FILENO, b"input too long\n");
+        checks::print("input too long\n");
         return;
     }
-    compare(&input[..n]).report(b"lists: ");
+    compare(&input[..n]).report("lists: ");
 }
 
 fn compare(input: &[u8]) -> Tally {
@@ -49,9 +49,9 @@ fn line_outcome(line: &[u8]) -> Outcome {
     match list_agrees(line) {
         Some(true) => Outcome::Agreed,
         Some(false) => {
-            io::write_all(STDOUT_FILENO, b"disagrees: ");
+            checks::print("disagrees: ");
             io::write_all(STDOUT_FILENO, line);
-            io::write_all(STDOUT_FILENO, b"\n");
+            checks::print("\n");
             Outcome::Disagreed
         }
         None => Outcome::Malformed,
@@ -88,22 +88,23 @@ fn words_agree(vb: usize, seed: u32, fill: Fill, text: &[u8], checksum: u32) -> 
     Some(agrees(vb, seed, fill, &room[..n], checksum))
 }
 
-// Reads words of eight digits with a comma between, and answers how many, if none is malformed and all have room.
+// Reads words of eight digits with a comma between, and answers how many, if none is malformed and all have room. There is no
+// heap, so that the words stand in a lent room, and are counted first.
 fn read_words(text: &[u8], room: &mut [u32]) -> Option<usize>
     ensures { IfSome result (λ n. n ≤ length room.new) }
 {
-    let mut n = 0;
-    for word in text.split(|&byte| byte == b',') {
+    let n = text.split(|&byte| byte == b',').count();
+    let slots = room.get_mut(..n)?;
+    for (slot, word) in slots.iter_mut().zip(text.split(|&byte| byte == b',')) {
         if word.len() != 8 {
             return None;
         }
-        *room.get_mut(n)? = checks::hexadecimal_of(word)?;
-        n += 1;
+        *slot = checks::hexadecimal_of(word)?;
     }
     Some(n)
 }
 
-// The number that decimal digits give, if there are any and it is below 2^32.
+// The number that decimal digits give, if there are any and it is below 2^32. `parse` would take a sign too, as in +5.
 fn decimal_of(text: &[u8]) -> Option<u32> {
     if text.is_empty() {
         return None;
@@ -142,7 +143,8 @@ fn agrees(vb: usize, seed: u32, fill: Fill, words: &[u32], checksum: u32) -> boo
     )
 }
 
-// Whether every word is executed and leaves a ZA with the checksum.
+// Whether every word is executed and leaves a ZA with the checksum. The bench and the buffers come one by one, here and below:
+// `machine` takes them so, and would have a struct of them taken apart again at once.
 fn leaves(
     bench: Bench,
     seed: u32,

@@ -12,7 +12,7 @@ use Rattle.isa.specs.Row.{matches}
 use Rattle.isa.specs.Refusals.{first_failure}
 use Rattle.isa.specs.Table.{Feature, flag, SME, I16I64, MOP4, SME2, on, lacking, all_flags, Entry, table, described, in_range, word_for}
 use Rattle.isa.specs.Answers.{lookup, describe, missing, decode_tests, room_tests, decided, decode_of, decode_refusal, encode_of}
-use Rattle.isa.specs.Claims.{AllOn}
+use Rattle.isa.specs.Claims.{AllOn, FeaturesOn}
 use Rattle.isa.specs.declared.Instruction.{Instruction}
 use Rattle.isa.specs.declared.Refusal.{Refusal}
 use Rattle.isa.specs.declared.Refusal.TheVariants.{Flags, Unlisted, FeatureOff, OutOfRange, Room}
@@ -40,6 +40,16 @@ pub on-lacking : (flags : ℕ) (fs : List Feature) → AllOn flags fs → lackin
 on-lacking flags [] h = refl
 on-lacking flags (f ∷ fs) h =
     rw (h f (Memᴰ.head refl), on-lacking flags fs (λ g m. h g (Memᴰ.tail m)))
+
+-- every feature is on where all flags are
+all_on : (f : Feature) → on all_flags f ≡ true
+all_on SME = refl
+all_on I16I64 = refl
+all_on MOP4 = refl
+all_on SME2 = refl
+
+pub features_on : (w : ℕ) → FeaturesOn all_flags w
+features_on w e m q f n = all_on f
 
 -- flags, by what flags_legal answers
 pub flags_fit : {flags : ℕ} {b : Bool} → b ≡ not (ltb all_flags flags) → b ≡ true → flags ≤ all_flags

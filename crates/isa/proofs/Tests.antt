@@ -1,4 +1,5 @@
--- Lists of tests: all hold together exactly when each holds; and a test of every number below a bound. Assumes nothing.
+-- Lists of tests: all hold together exactly when each holds, however they are joined; and a test of every number below a
+-- bound. Assumes nothing.
 use mathlib.Core.Path.{◌≡◌, refl, sym}
 use mathlib.Core.Bool.{Bool, beq, true, false, true≢false, ◌&&◌}
 use mathlib.Core.List.{List, [], ◌∷◌}
@@ -20,6 +21,25 @@ every_all (false ∷ ts) h = let z : ◌≡◌ {A = ℕ} 0 1 = cc in absurd (ome
 pub all_every : (ts : List Bool) → All ts → every ts ≡ true
 all_every [] h = refl
 all_every (t ∷ ts) h = rw h.0 (all_every ts h.1)
+
+-- tests joined from the left, as the code's `a & b & c` is
+abbrev joined_to : Bool → List Bool → Bool
+joined_to b [] = b
+joined_to b (t ∷ ts) = joined_to (b && t) ts
+
+abbrev joined : List Bool → Bool
+joined [] = true
+joined (t ∷ ts) = joined_to t ts
+
+joined_to_lem : (b : Bool) (ts : List Bool) → joined_to b ts ≡ b && every ts
+joined_to_lem true [] = refl
+joined_to_lem true (t ∷ ts) = joined_to_lem t ts
+joined_to_lem false [] = refl
+joined_to_lem false (t ∷ ts) = joined_to_lem false ts
+
+pub joined-every : (ts : List Bool) → joined ts ≡ every ts
+joined-every [] = refl
+joined-every (t ∷ ts) = joined_to_lem t ts
 
 pub beq_eq : (a b : Bool) → beq a b ≡ true → a ≡ b
 beq_eq true true h = refl

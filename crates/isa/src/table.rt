@@ -48,7 +48,8 @@ pub(crate) const QUARTER_TWO_WAY: Fixed = Fixed {
     word: 0x8000_8008,
 };
 
-// The line that a word is of.
+// The line that a word is of. A search through a list of lines would be no plainer: the definition's table is a list already, and
+// each line's test would be held against it all the same.
 pub(crate) fn line_of(word: u32) -> Option<Line>
     ensures { found result ≡ lookup table word }
 {

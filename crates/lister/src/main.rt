@@ -8,7 +8,7 @@ ghost use Rattle.disassembly.specs.Pieces.{lines_for, end_for, end_room, listed_
 ghost use Rattle.disassembly.specs.Claims.{room_for};
 ghost use Rattle.lister.specs.Reads.{most_read};
 
-use checks::{STDERR_FILENO, STDOUT_FILENO};
+use checks::STDOUT_FILENO;
 use disassembly::{Advance, Place};
 use std::io::Read;
 
@@ -25,7 +25,7 @@ fn main(rt: HostRuntime) {
         };
         place = behind;
     }
-    tell(b"the input is read no further, and is not listed whole\n");
+    checks::eprint(format_args!("the input is read no further, and is not listed whole\n"));
 }
 
 fn lines_room() -> [u8; ROOM]
@@ -41,7 +41,9 @@ fn read_and_list(rt: &HostRuntime, place: Place, room: &mut [u8]) -> Option<Plac
 {
     let mut piece = io::buffer();
     let Ok(n) = rt.stdin().read(&mut piece) else {
-        tell(b"the input can't be read to its end, and is not listed whole\n");
+        checks::eprint(format_args!(
+            "the input can't be read to its end, and is not listed whole\n"
+        ));
         return None;
     };
     if n == 0 {
@@ -71,20 +73,13 @@ fn put_end(place: Place, room: &mut [u8]) -> usize
     ensures answer { result ≡ length (end_for place) }
     ensures room_after { room.new ≡ end_for place ++ drop (length (end_for place)) room.old }
 {
-    match disassembly::finish(place, room) {
-        Ok(n) => n,
-        Err(_) => 0,
-    }
+    disassembly::finish(place, room).unwrap_or(0)
 }
 
 fn write(text: &[u8]) -> bool {
     let written = io::write_all(STDOUT_FILENO, text);
     if !written {
-        tell(b"standard output did not take the whole listing\n");
+        checks::eprint(format_args!("standard output did not take the whole listing\n"));
     }
     written
-}
-
-fn tell(text: &[u8]) {
-    io::write_all(STDERR_FILENO, text);
 }

@@ -4,7 +4,6 @@
 // the 7,368,960 words to the same text.
 #![tactic(auto)]
 
-use checks::{STDOUT_FILENO, part};
 use std::ops::Range;
 
 // Where the listed words stand: the quarter-tile words on 32-bit tiles; the other outer products; ZERO.
@@ -29,10 +28,10 @@ fn main() {
     let quarter32 = list_words(QUARTER32, &mut room);
     let others = list_words(OTHERS, &mut room);
     let zero = list_words(ZERO, &mut room);
-    quarter32.report(b"quarter-tile 32: ");
-    others.report(b"other outer products: ");
-    zero.report(b"zero: ");
-    quarter32.joined(others).joined(zero).report(b"total: ");
+    quarter32.report("quarter-tile 32");
+    others.report("other outer products");
+    zero.report("zero");
+    quarter32.joined(others).joined(zero).report("total");
 }
 
 // The words, each printed into room.
@@ -45,13 +44,11 @@ fn list_words(words: Range<u32>, room: &mut [u8]) -> Listing {
 }
 
 impl Listing {
-    fn report(self, name: &[u8]) {
-        io::write_all(STDOUT_FILENO, name);
-        part(b"lines ", self.lines);
-        part(b", bytes ", self.bytes);
-        part(b", sum ", self.sum);
-        part(b", read back ", self.back);
-        io::write_all(STDOUT_FILENO, b"\n");
+    fn report(self, name: &str) {
+        checks::print(format_args!(
+            "{name}: lines {}, bytes {}, sum {}, read back {}\n",
+            self.lines, self.bytes, self.sum, self.back
+        ));
     }
 
     fn joined(self, other: Listing) -> Listing {

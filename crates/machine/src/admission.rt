@@ -15,7 +15,7 @@ use crate::{Bench, Modes};
 use isa::{Instruction, Refusal};
 
 // Tests 1 to 5. What they make sure of stands in the `requires` behind them, and in no type: it speaks of ZA's length, and ZA is lent
-// to be written.
+// to be written. A `Bench` is what a caller gives, legal or not.
 pub(crate) fn check_bench(bench: Bench, z: usize, p: usize, za: usize) -> Result<(), Refusal>
     ensures { result ≡ outcome (first_failure (bench_tests bench z p za)) }
 {

@@ -12,9 +12,8 @@ pub use executor::execute;
 pub use lists::{MOST_WORDS, check_run, play, run};
 pub use reversal::exchange;
 
-// The bench, Z, P and ZA are passed one by one: ZA alone is lent to be written, and a struct of all would be made anew for each call.
-
-// The bench: the feature flags, streaming mode (PSTATE.SM) and ZA (PSTATE.ZA) on or off, and the vector length in bytes.
+// The bench: the feature flags, streaming mode (PSTATE.SM) and ZA (PSTATE.ZA) on or off, and the vector length in bytes. Z, P and ZA
+// are passed beside it: ZA alone is lent to be written, and a struct of all would be made anew for each call.
 #[derive(Clone, Copy)]
 pub struct Bench {
     pub flags: u32,

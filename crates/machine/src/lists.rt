@@ -53,21 +53,23 @@ fn run_words(bench: Bench, z: &[u8], p: &[u8], za: &mut [u8], words: &[u32]) -> 
     ensures za_after { za.new ≡ (left_at_end (at_start (on bench z.now p.now za.old)) words.now).za }
 {
     let mut cleared = 0u8;
-    for i in 0..words.len() {
-        match execute_next(bench, z, p, za, cleared, words[i]) {
+    let mut ended = Ended {
+        count: words.len(),
+        outcome: Ok(()),
+    };
+    for (i, &word) in words.iter().enumerate() {
+        match execute_next(bench, z, p, za, cleared, word) {
             Ok(instruction) => cleared = also_cleared(cleared, instruction),
             Err(r) => {
-                return Ended {
+                ended = Ended {
                     count: i,
                     outcome: Err(r),
                 };
+                break;
             }
         }
     }
-    Ended {
-        count: words.len(),
-        outcome: Ok(()),
-    }
+    ended
 }
 
 // Executes every word singly; a refused one leaves ZA as it was, and the list goes on.

@@ -10,7 +10,7 @@ ghost use Rattle.machine.specs.Instructions.{is_outer};
 ghost use Rattle.pairs.specs.Order.{some_below, order_matters};
 ghost use Rattle.order.specs.Pairs.{word_at, paired_with, any_pair, is_fixed, any_fixed, count_in, verdict_of};
 
-use checks::{InputError, STDERR_FILENO, STDOUT_FILENO, part};
+use checks::{InputError, STDOUT_FILENO};
 use isa::{Instruction, Refusal};
 
 // What is said of a list.
@@ -29,15 +29,6 @@ pub enum Unjudged {
     Unreadable,
 }
 
-impl From<InputError> for Unjudged {
-    fn from(error: InputError) -> Unjudged {
-        match error {
-            InputError::TooLong => Unjudged::TooLong,
-            InputError::Unreadable => Unjudged::Unreadable,
-        }
-    }
-}
-
 fn main(rt: HostRuntime) {
     let mut room = checks::input_room();
     if let Err(why) = judge_input(&rt, &mut room) {
@@ -47,7 +38,10 @@ fn main(rt: HostRuntime) {
 
 // Judges what is on standard input, and says what comes of it.
 fn judge_input(rt: &HostRuntime, room: &mut [u8]) -> Result<(), Unjudged> {
-    let n = checks::read_input(rt, room)?;
+    let n = checks::read_input(rt, room).map_err(|error| match error {
+        InputError::TooLong => Unjudged::TooLong,
+        InputError::Unreadable => Unjudged::Unreadable,
+    })?;
     let bytes = checks::first(room, n);
     let verdict = judge(bytes)?;
     pronounce(verdict, bytes.len() / 4);
@@ -78,9 +72,13 @@ fn judge(bytes: &[u8]) -> Result<Verdict, Unjudged>
 fn pronounce(verdict: Verdict, words: usize) {
     match verdict {
         Verdict::OrderMatters => {}
-        Verdict::AnyOrder => write(b"any order gives the same ZA\n"),
+        Verdict::AnyOrder => {
+            checks::print(format_args!("any order gives the same ZA\n"));
+        }
         Verdict::AnyOrderBetween => {
-            write(b"any order that moves no word past a fixed one gives the same ZA\n");
+            checks::print(format_args!(
+                "any order that moves no word past a fixed one gives the same ZA\n"
+            ));
         }
     }
     count_words(words);
@@ -88,28 +86,32 @@ fn pronounce(verdict: Verdict, words: usize) {
 
 fn tell_why(why: Unjudged) {
     match why {
-        Unjudged::NotWords => tell(b"the input ends in the middle of a word, and is not judged\n"),
+        Unjudged::NotWords => {
+            checks::eprint(format_args!(
+                "the input ends in the middle of a word, and is not judged\n"
+            ));
+        }
         Unjudged::TooLong => {
-            tell(b"the list has more words than ");
-            io::print_decimal(STDERR_FILENO, machine::MOST_WORDS as u64);
-            tell(b", and is not judged\n");
+            checks::eprint(format_args!(
+                "the list has more words than {}, and is not judged\n",
+                machine::MOST_WORDS
+            ));
         }
         Unjudged::Unreadable => {
-            tell(b"the input can't be read to its end, and is not judged\n");
+            checks::eprint(format_args!("the input can't be read to its end, and is not judged\n"));
         }
     }
 }
 
 // The last line shows that the list was judged to its end, and that it was not empty.
 fn count_words(n: usize) {
-    part(b"words judged: ", n as u64);
-    if !io::write_all(STDOUT_FILENO, b"\n") {
-        tell(b"standard output did not take all of this\n");
+    if !checks::print(format_args!("words judged: {n}\n")) {
+        checks::eprint(format_args!("standard output did not take all of this\n"));
     }
 }
 
 // Names each pair whose order matters, and answers whether there is one. What names a pair stands before `|`, so that it is done
-// in any case.
+// in any case. The loops count places: a pair is of two, and the definitions speak of the word at a place.
 fn name_pairs(bytes: &[u8]) -> bool
     ensures { result ≡ any_pair bytes.now (count_in bytes.now) }
 {
@@ -138,16 +140,16 @@ fn name_pair(j: usize, earlier: u32, i: usize, later: u32) -> bool
 {
     let matters = pairs::order_matters(isa::ALL_FLAGS, earlier, later);
     if matters {
-        write(b"order matters: ");
+        checks::print(format_args!("order matters: "));
         write_word(j, earlier);
-        write(b"; ");
+        checks::print(format_args!("; "));
         write_word(i, later);
-        write(b"\n");
+        checks::print(format_args!("\n"));
     }
     matters
 }
 
-// Names each word that stays where it is, and answers whether there is one.
+// Names each word that stays where it is, and answers whether there is one. By places again, as the definitions speak of them.
 fn name_fixed_words(bytes: &[u8]) -> bool
     ensures { result ≡ any_fixed bytes.now (count_in bytes.now) }
 {
@@ -167,9 +169,9 @@ fn name_if_fixed(i: usize, word: u32) -> bool
             true
         }
         Ok(Instruction::Zero(_)) => {
-            write(b"fixed: ");
+            checks::print(format_args!("fixed: "));
             write_word(i, word);
-            write(b"\n");
+            checks::print(format_args!("\n"));
             true
         }
         Ok(_) => false,
@@ -177,12 +179,11 @@ fn name_if_fixed(i: usize, word: u32) -> bool
 }
 
 fn name_refused(i: usize, word: u32, r: Refusal) {
-    write(b"fixed: ");
-    write_place(i);
-    io::print_hex(STDOUT_FILENO, word as u64, 8);
-    write(b", refused ");
-    refusals::write_refusal(STDOUT_FILENO, r);
-    write(b"\n");
+    checks::print(format_args!(
+        "fixed: word {}, {word:08x}, refused {}\n",
+        place(i),
+        refusals::Told(r)
+    ));
 }
 
 fn word_at(bytes: &[u8], i: usize) -> u32
@@ -194,23 +195,14 @@ fn word_at(bytes: &[u8], i: usize) -> u32
 
 // A word by its place in the list and its text.
 fn write_word(i: usize, word: u32) {
-    write_place(i);
+    checks::print(format_args!("word {}, ", place(i)));
     let mut room = [0u8; 47];
     if let Ok(n) = text::print(isa::ALL_FLAGS, word, &mut room) {
-        write(checks::first(&room, n));
+        io::write_all(STDOUT_FILENO, checks::first(&room, n));
     }
 }
 
 // The first word is word 1.
-fn write_place(i: usize) {
-    part(b"word ", (i as u64).wrapping_add(1));
-    write(b", ");
-}
-
-fn write(text: &[u8]) {
-    io::write_all(STDOUT_FILENO, text);
-}
-
-fn tell(text: &[u8]) {
-    io::write_all(STDERR_FILENO, text);
+fn place(i: usize) -> u64 {
+    (i as u64).wrapping_add(1)
 }

@@ -30,10 +30,8 @@ pub struct Operand {
     pub unsigned: bool,
 }
 
-// Sizes are numbers, and no enum of three shapes: the laws are over both, and `Shaped` says which there are.
-
 // An outer product: the bytes of a tile element and how many products come to it, its tile and sources, and whether it
-// subtracts.
+// subtracts. The sizes are numbers, and no enum of three shapes: the laws are over any, and `Shaped` says which there are.
 #[derive(Clone, Copy)]
 pub struct OuterProduct {
     pub element: usize,

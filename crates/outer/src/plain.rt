@@ -37,6 +37,7 @@ pub fn update_plainly(vb: usize, o: OuterProduct, z: &[u8], p: &[u8], za: &mut [
 
 impl Task<'_> {
     // Product k of element (row, col), added to sum.
+    #[tactic(auto, using(crate::proofs::Shapes::element_in))]
     fn add_product(&self, sum: u64, row: usize, col: usize, k: usize) -> u64
         requires row_bound { (row < self.now.vb / self.now.o.element) × (col < self.now.vb / self.now.o.element) × (k < self.now.o.products) }
         requires sum_bound { sum < 256 ^ self.now.o.element }

@@ -41,9 +41,9 @@ impl Task<'_> {
         }
     }
 
-    // The second source's register in planes: the element for product j of column c at 64 * j + c, negated where the
-    // instruction subtracts, so that its products come out negated. Of a copy of the
-    // task the compiler takes tests out of the loops.
+    // The second source's register in planes: the element for product j of column c at 64 * j + c, negated where the instruction
+    // subtracts, so that its products come out negated. The task is copied first: behind a reference, the compiler leaves its tests
+    // in the loops.
     #[tactic(auto, using(crate::proofs::Shapes::few_products, crate::proofs::Shapes::few_columns_of, crate::proofs::Shapes::element_inside, crate::proofs::Shapes::number_lt))]
     fn widen(&self, register: usize, y: &mut [i32])
         requires register_bound { (register < 32) × (length y.old ≡ 256) }
@@ -59,8 +59,9 @@ impl Task<'_> {
         }
     }
 
-    // A row, by the registers of the first source. One call serves all runs: of two, the compiler keeps the walk over columns
-    // apart, and lists of words took up to a fifth longer.
+    // A row, by the registers of the first source. One call serves all runs: with two, the compiler keeps the walk over columns
+    // apart, and lists of words took up to a fifth longer. What the row asks of ZA and of the planes stands at each function: ZA is
+    // lent to be written, and the planes are filled anew between rows.
     fn add_row(&self, row: usize, y: &[i32], za: &mut [u8])
         requires za_len { length za.old ≡ za_size self.now.vb }
         requires row_bound { row < self.now.vb / self.now.o.element }

@@ -7,7 +7,7 @@ ghost use Rattle.std.proofs.lemmas.List.Edits.{sets};
 ghost use Rattle.capture.specs.Outcomes.{buffers, Roomy};
 ghost use Rattle.picture.specs.Images.{digit, separator, pixel, pixels, header, longest_image, Shows};
 
-use checks::{InputError, STDERR_FILENO, STDOUT_FILENO};
+use checks::{InputError, STDOUT_FILENO};
 use isa::Refusal;
 
 // The bytes of the header, those of a pixel, a number in three places and what stands behind it, and those of the largest image.
@@ -17,6 +17,7 @@ const PIXEL: usize = 4;
 
 const LONGEST: usize = 262159;
 
+// `replay` has one like it: what is done with the file and what is said differ, and one function for both would be no plainer.
 fn main(rt: HostRuntime) {
     let mut input = checks::input_room();
     match checks::read_input(&rt, &mut input) {
@@ -24,7 +25,7 @@ fn main(rt: HostRuntime) {
         // No capture is as long as the room, and its first byte, which is the version, stands there.
         Err(InputError::TooLong) => show(&input),
         Err(InputError::Unreadable) => {
-            tell(b"the input can't be read to its end, and is not shown\n");
+            checks::eprint(format_args!("the input can't be read to its end, and is not shown\n"));
         }
     }
 }
@@ -37,13 +38,11 @@ fn show(file: &[u8]) {
     let mut room = image_room();
     match show_file(file, &mut words, &mut z, &mut p, &mut za, &mut room) {
         Err(r) => {
-            tell(b"refused ");
-            refusals::write_refusal(STDERR_FILENO, r);
-            tell(b"\n");
+            checks::eprint(format_args!("refused {}\n", refusals::Told(r)));
         }
         Ok(length) => {
             if !io::write_all(STDOUT_FILENO, checks::first(&room, length)) {
-                tell(b"standard output did not take the whole image\n");
+                checks::eprint(format_args!("standard output did not take the whole image\n"));
             }
         }
     }
@@ -55,7 +54,8 @@ fn image_room() -> [u8; LONGEST]
     [0; LONGEST]
 }
 
-// Reads a file, puts the image of its ZA at the start of room, and answers how many bytes that has.
+// Reads a file, puts the image of its ZA at the start of room, and answers how many bytes that has. The buffers come one by one:
+// `capture` takes them so, and would have a struct of them taken apart again at once.
 fn show_file(
     file: &[u8],
     words: &mut [u32],
@@ -136,8 +136,4 @@ fn digit_from(v: usize, unit: usize) -> u8
     } else {
         b'0' + (v / unit % 10) as u8
     }
-}
-
-fn tell(text: &[u8]) {
-    io::write_all(STDERR_FILENO, text);
 }

@@ -5,7 +5,7 @@
 
 ghost use Rattle.std.specs.Prelude.{◌≡◌, ◌≤◌, length};
 
-use checks::{InputError, STDOUT_FILENO, part};
+use checks::{InputError, STDOUT_FILENO};
 use disassembly::Place;
 
 // Room for the lines of 40,003 bytes in one piece.
@@ -34,8 +34,12 @@ fn main(rt: HostRuntime) {
     let mut input = checks::input_room();
     match checks::read_input(&rt, &mut input) {
         Ok(n) => list_cuts(checks::first(&input, n)),
-        Err(InputError::TooLong) => write(b"the input is too long\n"),
-        Err(InputError::Unreadable) => write(b"the input can't be read\n"),
+        Err(InputError::TooLong) => {
+            checks::print(format_args!("the input is too long\n"));
+        }
+        Err(InputError::Unreadable) => {
+            checks::print(format_args!("the input can't be read\n"));
+        }
     }
 }
 
@@ -43,7 +47,7 @@ fn main(rt: HostRuntime) {
 fn list_cuts(bytes: &[u8]) {
     let mut space = lines_room();
     let room: &mut [u8] = &mut space;
-    write(b"whole");
+    checks::print(format_args!("whole"));
     sum_of(bytes, bytes.len(), room).report();
     for size in [1, 2, 3, 4, 5, 7, 64, 4093, 4096] {
         in_pieces(bytes, size, room);
@@ -61,7 +65,7 @@ fn lines_room() -> [u8; ROOM]
 }
 
 fn in_pieces(bytes: &[u8], size: usize, room: &mut [u8]) {
-    part(b"pieces of ", size as u64);
+    checks::print(format_args!("pieces of {size}"));
     sum_of(bytes, size, room).report();
 }
 
@@ -78,7 +82,7 @@ fn in_rooms(bytes: &[u8]) {
 }
 
 fn in_room(bytes: &[u8], room: &mut [u8]) {
-    part(b"rooms of ", room.len() as u64);
+    checks::print(format_args!("rooms of {}", room.len()));
     sum_of(bytes, bytes.len(), room).report();
 }
 
@@ -132,24 +136,19 @@ impl Sum {
     }
 
     fn report(self) {
-        part(b": calls ", self.calls);
-        part(b", lines ", self.lines);
-        part(b", bytes ", self.bytes);
-        checks::count(b", checksum ", self.checksum);
+        checks::print(format_args!(
+            ": calls {}, lines {}, bytes {}, checksum {}\n",
+            self.calls, self.lines, self.bytes, self.checksum
+        ));
     }
 }
 
 // The listing of the first n bytes.
 fn list_first(bytes: &[u8], n: usize, room: &mut [u8]) {
-    part(b"the first ", n as u64);
-    write(b":\n");
+    checks::print(format_args!("the first {n}:\n"));
     let listed = disassembly::list(disassembly::start(), checks::first(bytes, n), room);
-    write(checks::first(room, listed.written));
+    io::write_all(STDOUT_FILENO, checks::first(room, listed.written));
     if let Ok(k) = disassembly::finish(listed.place, room) {
-        write(checks::first(room, k));
+        io::write_all(STDOUT_FILENO, checks::first(room, k));
     }
-}
-
-fn write(text: &[u8]) {
-    io::write_all(STDOUT_FILENO, text);
 }

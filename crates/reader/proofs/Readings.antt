@@ -10,13 +10,12 @@ use lib.ListN.{length, take}
 use borrow.Author.Tests.{lt-ltb, le-ltb, ltb-true, ltb-false}
 use Rattle.std.specs.Prelude.{Err, Ok, Result}
 use Rattle.isa.specs.Refusals.{number_in, refusal_in, value_in}
-use Rattle.isa.specs.Table.{Feature, SME, I16I64, MOP4, SME2, on, all_flags}
-use Rattle.isa.specs.Claims.{FeaturesOn}
+use Rattle.isa.specs.Table.{all_flags}
 use Rattle.isa.specs.Answers.{describe, missing, decided, decode_of, decode_refusal, encode_of}
 use Rattle.isa.specs.declared.Instruction.{Instruction}
 use Rattle.isa.specs.declared.Refusal.{Refusal}
 use Rattle.isa.specs.declared.Refusal.TheVariants.{Flags, FeatureOff, NotText}
-use Rattle.isa.proofs.Answers.{encoded, decode_passed}
+use Rattle.isa.proofs.Answers.{features_on, encoded, decode_passed}
 use Rattle.isa.proofs.Lines.{word-described}
 use Rattle.isa.proofs.Theorems.{decodes, described_in_range}
 use Rattle.text.specs.Spelling.{Text, spelling}
@@ -104,18 +103,9 @@ read_computed flags t = by_flags (ltb all_flags flags) refl
     by_flags false p = by_word (ltb-false all_flags flags p) (encode_of (guess_of t)) refl
 
 -- ---- printing with every feature on
-every-on : (f : Feature) → on all_flags f ≡ true
-every-on SME = refl
-every-on I16I64 = refl
-every-on MOP4 = refl
-every-on SME2 = refl
-
-all_on : (w : ℕ) → FeaturesOn all_flags w
-all_on w e m q f k = every-on f
-
 pub decodes_all : (w : ℕ) (i : Instruction) → describe w ≡ some i → decode_of all_flags w ≡ Ok i
 unfolding decode_of
-decodes_all w i p = rw (p, (decodes all_flags w).missing_none.1 (all_on w))
+decodes_all w i p = rw (p, (decodes all_flags w).missing_none.1 (features_on w))
 
 -- a text that was printed is the word's
 module _ (w n : ℕ) (room : List ℕ) (e : print_of all_flags w (length room) ≡ Ok n) where

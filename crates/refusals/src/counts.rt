@@ -19,6 +19,12 @@ pub fn no_sums() -> Sums
     }
 }
 
+impl Default for Sums {
+    fn default() -> Sums {
+        no_sums()
+    }
+}
+
 impl Sums {
     // The counts with one sum more, but for 0: nothing is missing.
     pub fn with_sum(self, sum: u32) -> Sums
@@ -55,11 +61,11 @@ impl Sums {
 
     // Writes the counts, a line for each sum.
     pub fn report(self) {
-        count(b"missing 1: ", self.sme);
-        count(b"missing 2: ", self.i16i64);
-        count(b"missing 4: ", self.mop4);
-        count(b"missing 6: ", self.i16i64_mop4);
-        count(b"missing 8: ", self.sme2);
-        count(b"missing another sum: ", self.others);
+        count("missing 1: ", self.sme);
+        count("missing 2: ", self.i16i64);
+        count("missing 4: ", self.mop4);
+        count("missing 6: ", self.i16i64_mop4);
+        count("missing 8: ", self.sme2);
+        count("missing another sum: ", self.others);
     }
 }

@@ -5,7 +5,7 @@ mod counts;
 mod meaning;
 
 pub use counts::no_sums;
-pub use meaning::write_refusal;
+pub use meaning::Told;
 
 // How many words miss which features, by the sum of their flags; no word of the table misses another sum than these five.
 #[derive(Clone, Copy)]

@@ -24,6 +24,7 @@ pub struct Ran {
     pub length: usize,
 }
 
+// `picture` has one like it: what is done with the file and what is said differ, and one function for both would be no plainer.
 fn main(rt: HostRuntime) {
     let mut input = checks::input_room();
     match checks::read_input(&rt, &mut input) {
@@ -31,7 +32,9 @@ fn main(rt: HostRuntime) {
         // No capture is as long as the room, and its first byte, which is the version, stands there.
         Err(InputError::TooLong) => replay(&input),
         Err(InputError::Unreadable) => {
-            tell(b"the input can't be read to its end, and is not replayed\n");
+            checks::eprint(format_args!(
+                "the input can't be read to its end, and is not replayed\n"
+            ));
         }
     }
 }
@@ -47,16 +50,18 @@ fn replay(file: &[u8]) {
         Ok(ran) => {
             let made = checks::first(&room, ran.length);
             write_bench(ran.bench);
+            // A capture's words fit, so this cuts none; it gives the slice its bound.
             write_end(&words[..ran.words.min(words.len())], ran.ended);
             write_changes(ran.bench.vb, file, made);
             if !io::write_all(STDOUT_FILENO, made) {
-                tell(b"standard output did not take the whole capture\n");
+                checks::eprint(format_args!("standard output did not take the whole capture\n"));
             }
         }
     }
 }
 
-// Reads a file, runs it, and puts it with ZA as the run left it at the start of room.
+// Reads a file, runs it, and puts it with ZA as the run left it at the start of room. The buffers come one by one, here and below:
+// `capture` and `machine` take them so, and would have a struct of them taken apart again at once.
 fn replay_file(
     file: &[u8],
     words: &mut [u32],
@@ -105,66 +110,50 @@ fn run_and_write(
 
 // The bench: flags with their features, modes, vector length.
 fn write_bench(bench: Bench) {
-    part(b"flags ", bench.flags as u64);
-    write_feature(bench.flags, 1, b" SME");
-    write_feature(bench.flags, 2, b" I16I64");
-    write_feature(bench.flags, 4, b" MOP4");
-    write_feature(bench.flags, 8, b" SME2");
-    write_mode(b"\nstreaming mode ", bench.sm);
-    write_mode(b", ZA ", bench.za);
-    part(b"\nvector length ", bench.vb as u64);
-    tell(b" bytes\n");
+    checks::eprint(format_args!("flags {}", bench.flags));
+    for (flag, name) in [(1, "SME"), (2, "I16I64"), (4, "MOP4"), (8, "SME2")] {
+        if bench.flags & flag != 0 {
+            checks::eprint(format_args!(" {name}"));
+        }
+    }
+    checks::eprint(format_args!(
+        "\nstreaming mode {}, ZA {}\nvector length {} bytes\n",
+        mode(bench.sm),
+        mode(bench.za),
+        bench.vb
+    ));
 }
 
-fn write_feature(flags: u32, flag: u32, name: &[u8])
-    requires { 0 < flag }
-{
-    if flags / flag % 2 == 1 {
-        tell(name);
-    }
-}
-
-fn write_mode(name: &[u8], on: bool) {
-    tell(name);
-    if on {
-        tell(b"on");
-    } else {
-        tell(b"off");
-    }
+fn mode(on: bool) -> &'static str {
+    if on { "on" } else { "off" }
 }
 
 // How many words there are and how many were executed; where the run stopped, the word, its text and the refusal.
 fn write_end(words: &[u32], ended: Ended) {
-    part(b"words ", words.len() as u64);
-    part(b", executed ", ended.count as u64);
-    tell(b"\n");
+    checks::eprint(format_args!("words {}, executed {}\n", words.len(), ended.count));
     let outcome = ended.outcome;
     let Err(r) = outcome else {
         return;
     };
     let place = ended.count;
     if let Some(&word) = words.get(place) {
-        part(b"stopped at word ", place as u64 + 1);
-        write_word(word);
-        tell(b"\n");
+        checks::eprint(format_args!("stopped at word {}, {word:08x}", place + 1));
+        write_text(word);
+        checks::eprint(format_args!("\n"));
     }
     write_refused(r);
 }
 
 fn write_refused(r: Refusal) {
-    tell(b"refused ");
-    refusals::write_refusal(STDERR_FILENO, r);
-    tell(b"\n");
+    checks::eprint(format_args!("refused {}\n", refusals::Told(r)));
 }
 
-// A word in hexadecimal, and its text where it is listed, whatever features are on.
-fn write_word(word: u32) {
-    tell(b", ");
-    io::print_hex(STDERR_FILENO, word as u64, 8);
+// The text of a word that is listed, whatever features are on.
+fn write_text(word: u32) {
     let mut room = [0u8; 47];
     if let Ok(n) = text::print(15, word, &mut room) {
-        tell(b", ");
-        tell(checks::first(&room, n));
+        checks::eprint(format_args!(", "));
+        io::write_all(STDERR_FILENO, checks::first(&room, n));
     }
 }
 
@@ -174,15 +163,14 @@ fn write_changes(vb: usize, before: &[u8], after: &[u8])
 {
     let old = last(before, vb * vb);
     let new = last(after, vb * vb);
-    part(b"bytes of ZA changed: ", checks::differing(old, new));
+    checks::eprint(format_args!("bytes of ZA changed: {}", checks::differing(old, new)));
     for tile in 0..8 {
         let n = changed_in(tile, vb, old, new);
         if 0 < n {
-            part(b", za", tile as u64);
-            part(b".d ", n);
+            checks::eprint(format_args!(", za{tile}.d {n}"));
         }
     }
-    tell(b"\n");
+    checks::eprint(format_args!("\n"));
 }
 
 // How many bytes differ in the rows of a 64-bit tile.
@@ -203,13 +191,4 @@ fn last(bytes: &[u8], n: usize) -> &[u8]
     ensures { result.now ≡ drop (length bytes.now - n) bytes.now }
 {
     &bytes[bytes.len().saturating_sub(n)..]
-}
-
-fn part(name: &[u8], n: u64) {
-    tell(name);
-    io::print_decimal(STDERR_FILENO, n);
-}
-
-fn tell(text: &[u8]) {
-    io::write_all(STDERR_FILENO, text);
 }

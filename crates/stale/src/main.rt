@@ -2,11 +2,18 @@
 // tile too few, the run stops at the word that would have added to old sums; with all of ZA cleared first, it ends the same.
 #![tactic(auto)]
 
-use checks::{Fill, STDOUT_FILENO, part};
+use checks::{Fill, STDOUT_FILENO};
 use isa::Refusal;
 use machine::Bench;
 
 const FLAGS: u32 = 15;
+
+const BENCH: Bench = Bench {
+    flags: FLAGS,
+    sm: true,
+    za: true,
+    vb: 16,
+};
 
 const ZERO_ALL: u32 = 0xC008_00FF;
 
@@ -24,7 +31,7 @@ fn main() {
     let mut z = [0u8; 512];
     checks::generate(1, Fill::Any, &mut z);
     let p = [0xFFu8; 32];
-    run_from_both(b"without its zero", &z, &p, &KERNEL);
+    run_from_both("without its zero", &z, &p, &KERNEL);
     one_tile_too_few(&z, &p);
     with_zero(&z, &p, ZERO_ALL);
     play_from_both(&z, &p);
@@ -43,24 +50,26 @@ fn with_zero(z: &[u8], p: &[u8], zero: u32) {
         zero, KERNEL[0], KERNEL[1], KERNEL[2], KERNEL[3], KERNEL[4], KERNEL[5],
     ];
     write_text(zero);
-    run_from_both(b" first", z, p, &words);
+    run_from_both(" first", z, p, &words);
 }
 
 // Runs words on old sums and on zeros: how many are executed and the refusal of the next, 0 for none, of both; how many bytes of
 // ZA differ in the end; and the word that is refused.
-fn run_from_both(name: &[u8], z: &[u8], p: &[u8], words: &[u32]) {
+fn run_from_both(name: &str, z: &[u8], p: &[u8], words: &[u32]) {
     let mut old = old_sums();
     let mut zeros = [0u8; 256];
-    let ended = machine::run(bench(), z, p, &mut old, words);
-    let again = machine::run(bench(), z, p, &mut zeros, words);
-    io::write_all(STDOUT_FILENO, name);
-    part(b": executed ", ended.count as u64);
-    part(b" of ", words.len() as u64);
+    let ended = machine::run(BENCH, z, p, &mut old, words);
+    let again = machine::run(BENCH, z, p, &mut zeros, words);
     let outcome = ended.outcome;
-    part(b", refused ", number_of(outcome));
-    part(b"; on zeros ", again.count as u64);
     let outcome_again = again.outcome;
-    part(b", refused ", number_of(outcome_again));
+    checks::print(format_args!(
+        "{name}: executed {} of {}, refused {}; on zeros {}, refused {}",
+        ended.count,
+        words.len(),
+        number_of(outcome),
+        again.count,
+        number_of(outcome_again)
+    ));
     write_differing(&old, &zeros);
     write_stop(words, ended.count, outcome);
 }
@@ -80,30 +89,23 @@ fn write_stop(words: &[u32], place: usize, outcome: Result<(), Refusal>) {
     let Some(&word) = words.get(place) else {
         return;
     };
-    part(b"  stopped at word ", place as u64 + 1);
-    io::write_all(STDOUT_FILENO, b", ");
+    checks::print(format_args!("  stopped at word {}, ", place + 1));
     write_text(word);
-    io::write_all(STDOUT_FILENO, b"\n  refused ");
-    refusals::write_refusal(STDOUT_FILENO, r);
-    io::write_all(STDOUT_FILENO, b"\n");
+    checks::print(format_args!("\n  refused {}\n", refusals::Told(r)));
 }
 
 // What the run prevents: the kernel without its ZERO, executed word by word.
 fn play_from_both(z: &[u8], p: &[u8]) {
     let mut old = old_sums();
     let mut zeros = [0u8; 256];
-    machine::play(bench(), z, p, &mut old, &KERNEL);
-    machine::play(bench(), z, p, &mut zeros, &KERNEL);
-    io::write_all(STDOUT_FILENO, b"without its zero, word by word");
+    machine::play(BENCH, z, p, &mut old, &KERNEL);
+    machine::play(BENCH, z, p, &mut zeros, &KERNEL);
+    checks::print(format_args!("without its zero, word by word"));
     write_differing(&old, &zeros);
 }
 
 fn write_differing(old: &[u8], zeros: &[u8]) {
-    part(
-        b"; bytes of ZA that differ: ",
-        checks::differing(old, zeros),
-    );
-    io::write_all(STDOUT_FILENO, b"\n");
+    checks::count("; bytes of ZA that differ: ", checks::differing(old, zeros));
 }
 
 fn old_sums() -> [u8; 256] {
@@ -116,14 +118,5 @@ fn write_text(word: u32) {
     let mut room = [0u8; 47];
     if let Ok(n) = text::print(FLAGS, word, &mut room) {
         io::write_all(STDOUT_FILENO, checks::first(&room, n));
-    }
-}
-
-fn bench() -> Bench {
-    Bench {
-        flags: FLAGS,
-        sm: true,
-        za: true,
-        vb: 16,
     }
 }

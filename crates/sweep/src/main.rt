@@ -4,7 +4,7 @@
 #![tactic(auto)]
 
 use checks::count;
-use isa::{Instruction, Operation, Refusal};
+use isa::{Instruction, Line, Operation, Refusal, Shape};
 use refusals::Sums;
 
 const ALL_FEATURES: u32 = 15;
@@ -14,19 +14,7 @@ const DOCUMENT_01: u32 = 7;
 
 const NO_FEATURE: u32 = 0;
 
-// A line of the table.
-#[derive(Clone, Copy)]
-pub enum TableLine {
-    Predicated32,
-    Predicated64,
-    PredicatedTwoWay,
-    Quarter32,
-    Quarter64,
-    QuarterTwoWay,
-    Zero,
-}
-
-#[derive(Clone, Copy)]
+#[derive(Clone, Copy, Default)]
 pub struct Tally {
     pub predicated32: u64,
     pub predicated64: u64,
@@ -48,38 +36,27 @@ fn main() {
 
 fn report(flags: u32) {
     let t = sweep(flags);
-    count(b"flags ", flags as u64);
-    count(b"predicated 32: ", t.predicated32);
-    count(b"predicated 64: ", t.predicated64);
-    count(b"quarter 32: ", t.quarter32);
-    count(b"quarter 64: ", t.quarter64);
-    count(b"zero: ", t.zero);
+    count("flags ", flags as u64);
+    count("predicated 32: ", t.predicated32);
+    count("predicated 64: ", t.predicated64);
+    count("quarter 32: ", t.quarter32);
+    count("quarter 64: ", t.quarter64);
+    count("zero: ", t.zero);
     let predicated = t.predicated32.wrapping_add(t.predicated64);
     let quarter = t.quarter32.wrapping_add(t.quarter64);
     let base = predicated.wrapping_add(quarter).wrapping_add(t.zero);
-    count(b"document 01's table: ", base);
-    count(b"predicated 2-way: ", t.predicated_two_way);
-    count(b"quarter 2-way: ", t.quarter_two_way);
+    count("document 01's table: ", base);
+    count("predicated 2-way: ", t.predicated_two_way);
+    count("quarter 2-way: ", t.quarter_two_way);
     let two_way = t.predicated_two_way.wrapping_add(t.quarter_two_way);
-    count(b"total: ", base.wrapping_add(two_way));
-    count(b"encoded to another word: ", t.changed);
-    count(b"checked otherwise: ", t.otherwise);
+    count("total: ", base.wrapping_add(two_way));
+    count("encoded to another word: ", t.changed);
+    count("checked otherwise: ", t.otherwise);
     t.sums.report();
 }
 
 fn sweep(flags: u32) -> Tally {
-    let mut t = Tally {
-        predicated32: 0,
-        predicated64: 0,
-        predicated_two_way: 0,
-        quarter32: 0,
-        quarter64: 0,
-        quarter_two_way: 0,
-        zero: 0,
-        changed: 0,
-        otherwise: 0,
-        sums: refusals::no_sums(),
-    };
+    let mut t = Tally::default();
     for word in 0..0x1_0000_0000u64 {
         t.add_word(flags, word as u32);
     }
@@ -93,7 +70,7 @@ impl Tally {
         let checked = isa::check(flags, word);
         match isa::decode(flags, word) {
             Ok(i) => {
-                self.add_line(line(i));
+                self.add_line(line_of(i));
                 self.add_answers(encodes_to(i, word), checked.is_ok());
             }
             Err(Refusal::Unlisted) if matches!(checked, Err(Refusal::Unlisted)) => {}
@@ -109,48 +86,43 @@ impl Tally {
         self.otherwise = self.otherwise.wrapping_add(u64::from(!same_check));
     }
 
-    fn add_line(&mut self, line: TableLine) {
+    fn add_line(&mut self, line: Line) {
         match line {
-            TableLine::Predicated32 => self.predicated32 = self.predicated32.wrapping_add(1),
-            TableLine::Predicated64 => self.predicated64 = self.predicated64.wrapping_add(1),
-            TableLine::PredicatedTwoWay => {
+            Line::Predicated(Shape::Bytes32) => {
+                self.predicated32 = self.predicated32.wrapping_add(1);
+            }
+            Line::Predicated(Shape::Halves64) => {
+                self.predicated64 = self.predicated64.wrapping_add(1);
+            }
+            Line::Predicated(Shape::Halves32) => {
                 self.predicated_two_way = self.predicated_two_way.wrapping_add(1);
             }
-            TableLine::Quarter32 => self.quarter32 = self.quarter32.wrapping_add(1),
-            TableLine::Quarter64 => self.quarter64 = self.quarter64.wrapping_add(1),
-            TableLine::QuarterTwoWay => self.quarter_two_way = self.quarter_two_way.wrapping_add(1),
-            TableLine::Zero => self.zero = self.zero.wrapping_add(1),
+            Line::Quarter(Shape::Bytes32) => self.quarter32 = self.quarter32.wrapping_add(1),
+            Line::Quarter(Shape::Halves64) => self.quarter64 = self.quarter64.wrapping_add(1),
+            Line::Quarter(Shape::Halves32) => {
+                self.quarter_two_way = self.quarter_two_way.wrapping_add(1);
+            }
+            Line::Zero => self.zero = self.zero.wrapping_add(1),
         }
     }
 }
 
-// The instruction's line of the table.
-fn line(i: Instruction) -> TableLine {
+// The instruction's line of the table, by its description.
+fn line_of(i: Instruction) -> Line {
     match i {
-        Instruction::Predicated(p) => line_of(
-            p.op,
-            TableLine::Predicated32,
-            TableLine::Predicated64,
-            TableLine::PredicatedTwoWay,
-        ),
-        Instruction::Quarter(q) => line_of(
-            q.op,
-            TableLine::Quarter32,
-            TableLine::Quarter64,
-            TableLine::QuarterTwoWay,
-        ),
-        Instruction::Zero(_) => TableLine::Zero,
+        Instruction::Predicated(p) => Line::Predicated(shape_of(p.op)),
+        Instruction::Quarter(q) => Line::Quarter(shape_of(q.op)),
+        Instruction::Zero(_) => Line::Zero,
     }
 }
 
-// That of an outer product, of its family's three.
-fn line_of(op: Operation, narrow: TableLine, wide: TableLine, two_way: TableLine) -> TableLine {
+fn shape_of(op: Operation) -> Shape {
     if op.two_way {
-        two_way
+        Shape::Halves32
     } else if op.wide {
-        wide
+        Shape::Halves64
     } else {
-        narrow
+        Shape::Bytes32
     }
 }
 

@@ -1,15 +1,12 @@
 -- What print answers and leaves, by what decode answers. Assumes nothing.
-use mathlib.Core.Path.{◌≡◌, ◌∙◌, refl, subst}
+use mathlib.Core.Path.{◌≡◌, ◌∙◌, refl}
 use mathlib.Core.Bool.{Bool, true, false, cond}
 use mathlib.Core.List.{List, ◌++◌}
 use mathlib.Core.Option.{none, some}
-use Prim.Native.Nat.{ℕ, suc, ◌≤◌, ◌<◌}
-use native.Mathlib.Nat.{zero-add}
-use native.Mathlib.Omega.{arith}
+use Prim.Native.Nat.{ℕ, ◌≤◌, ◌<◌}
 use lib.Dec.{ltb}
 use borrow.Author.Tests.{lt-ltb, le-ltb}
-use lib.ListN.{length, take, drop, set, get_or}
-use lib.Seq.{paste, paste-suc}
+use lib.ListN.{length, take, drop}
 use Rattle.std.specs.Prelude.{Err, Ok}
 use Rattle.isa.specs.Refusals.{first_failure}
 use Rattle.isa.specs.Answers.{decode_of}
@@ -20,12 +17,6 @@ use Rattle.isa.proofs.Answers.{decode_passed, room_refused, room_passed}
 use Rattle.text.specs.Spelling.{spelling}
 use Rattle.text.specs.Put.{printed_in, filled_with}
 use Rattle.text.specs.Printing.{text_of, printed, filled, print_tests, print_of, room_after}
-
--- ---- a copy to the start of a room, element by element
-pub paste_next : (room text : List ℕ) (i : ℕ) → i < length room → i < length text → set (paste room 0 text i) i (get_or text i 0) ≡ paste room 0 text (suc i)
-paste_next room text i h l =
-    subst (λ (n : ℕ). set (paste room 0 text i) n (get_or text i 0) ≡ paste room 0 text (suc i)) (zero-add i)
-    (paste-suc room 0 text i 0 (omega arith) l)
 
 -- ---- the text fits the room, or does not
 pub too_short : (i : Instruction) (room : List ℕ) → length room < length (spelling i) → (Err Room ≡ printed_in i (length room)) × (room ≡ filled_with i room)

@@ -15,7 +15,8 @@ use std::marker::Model;
 // Where ZERO's first name goes: the length of `zero {`.
 const FIRST_NAME_AT: usize = 6;
 
-// A line as far as it is spelt: no line is longer than 47 bytes.
+// A line as far as it is spelt: 47 bytes at most, and one more for a tile's number of two digits, which no tile has. An array and
+// its length, as nothing here is on the heap. Its methods say how many bytes they put at most, so that a caller can add these up.
 #[derive(Drop)]
 pub(crate) struct Line {
     bytes: [u8; 48],

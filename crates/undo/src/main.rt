@@ -4,7 +4,7 @@
 
 ghost use Rattle.std.specs.Prelude.{◌≡◌, ◌≤◌, length};
 
-use checks::{Fill, STDOUT_FILENO, differing, generate, next, part};
+use checks::{Fill, differing, generate, next};
 use machine::Bench;
 
 const ALL_FEATURES: u32 = 15;
@@ -34,13 +34,10 @@ fn report(vb: usize)
     requires { vb ≤ 256 }
 {
     let t = tally_at(vb);
-    part(b"VB ", vb as u64);
-    part(b": lists ", t.lists);
-    part(b", words ", t.words);
-    part(b", accepted ", t.accepted);
-    part(b", lists that changed ZA ", t.changed);
-    part(b", bytes that differ in the end ", t.differing);
-    io::write_all(STDOUT_FILENO, b"\n");
+    checks::print(format_args!(
+        "VB {vb}: lists {}, words {}, accepted {}, lists that changed ZA {}, bytes that differ in the end {}\n",
+        t.lists, t.words, t.accepted, t.changed, t.differing
+    ));
 }
 
 // Makes the bench of the vector length and room for Z, P, ZA and ZA's start.
@@ -67,6 +64,8 @@ fn tally_at(vb: usize) -> Tally
     )
 }
 
+// The bench and the buffers come one by one, here and below: `machine` takes them so, and would have a struct of them taken
+// apart again at once.
 fn tally_lists(bench: Bench, z: &mut [u8], p: &mut [u8], za: &mut [u8], start: &mut [u8]) -> Tally {
     let mut t = Tally::default();
     for seed in 0..LISTS {
@@ -133,10 +132,7 @@ fn accepted(words: &[u32]) -> u64 {
 
 // With both modes on, a word is accepted if decode accepts it.
 fn is_accepted(word: u32) -> bool {
-    match isa::decode(ALL_FEATURES, word) {
-        Ok(_) => true,
-        Err(_) => false,
-    }
+    isa::decode(ALL_FEATURES, word).is_ok()
 }
 
 fn draw(x: u32, words: &mut [u32]) {

@@ -78,18 +78,6 @@ impl Case {
     }
 }
 
-fn operand(low: u32, high: u32, predication: Predication, unsigned: bool) -> Operand
-    requires { (low < 32) × (high < 32) × GoodPredication predication }
-    ensures { GoodOperand result }
-{
-    Operand {
-        low: Vector(low),
-        high: Vector(high),
-        predication,
-        unsigned,
-    }
-}
-
 pub(crate) fn first_register(c: Case) -> usize {
     if c.quarter { 2 } else { 1 }
 }
@@ -98,28 +86,22 @@ pub(crate) fn second_register(c: Case) -> usize {
     if c.quarter { 18 } else { 2 }
 }
 
-fn first_of(c: Case) -> Operand
-    ensures { GoodOperand result }
-{
-    source_of(c, 1, 2, c.first_pair, c.u0)
-}
-
-fn second_of(c: Case) -> Operand
-    ensures { GoodOperand result }
-{
-    source_of(c, 2, 18, c.second_pair, c.u1)
-}
-
 // A source: of a predicated case register n by predicate n, else register m, or the pair that it begins.
 fn source_of(c: Case, n: u32, m: u32, pair: bool, unsigned: bool) -> Operand
     requires { (n < 8) × (m < 31) }
     ensures { GoodOperand result }
 {
-    if !c.quarter {
-        return operand(n, n, Predication::By(Predicate(n)), unsigned);
+    let (low, high, predication) = if c.quarter {
+        (m, if pair { m + 1 } else { m }, Predication::Unpredicated)
+    } else {
+        (n, n, Predication::By(Predicate(n)))
+    };
+    Operand {
+        low: Vector(low),
+        high: Vector(high),
+        predication,
+        unsigned,
     }
-    let last = if pair { m + 1 } else { m };
-    operand(m, last, Predication::Unpredicated, unsigned)
 }
 
 // The bytes of a tile element, and how many products come to it.
@@ -146,8 +128,8 @@ fn outer_product(c: Case) -> OuterProduct
         element: shape.0,
         products: shape.1,
         tile: Tile(c.tile),
-        first: first_of(c),
-        second: second_of(c),
+        first: source_of(c, 1, 2, c.first_pair, c.u0),
+        second: source_of(c, 2, 18, c.second_pair, c.u1),
         subtract: c.subtract,
     }
 }
@@ -229,9 +211,11 @@ fn set_pattern(s: &mut [u8], width: usize, row: usize, pattern: Pattern) {
 impl Pattern {
     fn byte(self, i: usize) -> u8 {
         match self {
-            Pattern::Bytes(even, odd) => { if i % 2 == 0 { even } else { odd } }
+            Pattern::Bytes(even, _) if i % 2 == 0 => even,
+            Pattern::Bytes(_, odd) => odd,
             Pattern::Ramp => (i % 256) as u8,
-            Pattern::HalfwordRamp => { if i % 2 == 0 { (i / 2 % 256) as u8 } else { 0 } }
+            Pattern::HalfwordRamp if i % 2 == 0 => (i / 2 % 256) as u8,
+            Pattern::HalfwordRamp => 0,
         }
     }
 }

@@ -4,16 +4,16 @@ use crate::{bench, figures};
 
 pub(crate) fn all(t: &mut Tally) {
     rows_0_and_5(t);
-    cleared(t, b"zero 00 vb 16, bytes cleared", 16, 0, 0);
+    cleared(t, "zero 00 vb 16, bytes cleared", 16, 0, 0);
     // Mask 21: rows 0, 5, 8 and 13 of 16 bytes; 0, 5, 8, 13, 16, 21, 24 and 29 of 32 bytes
-    cleared(t, b"zero 21 vb 16, bytes cleared", 16, 0x21, 4 * 16);
-    cleared(t, b"zero 21 vb 32, bytes cleared", 32, 0x21, 8 * 32);
-    cleared(t, b"zero ff vb 16, bytes cleared", 16, 0xff, 256);
-    cleared(t, b"zero ff vb 32, bytes cleared", 32, 0xff, 1024);
+    cleared(t, "zero 21 vb 16, bytes cleared", 16, 0x21, 4 * 16);
+    cleared(t, "zero 21 vb 32, bytes cleared", 32, 0x21, 8 * 32);
+    cleared(t, "zero ff vb 16, bytes cleared", 16, 0xff, 256);
+    cleared(t, "zero ff vb 32, bytes cleared", 32, 0xff, 1024);
 }
 
 // How many bytes are cleared of a bench of ones.
-fn cleared(t: &mut Tally, what: &[u8], vb: usize, mask: u8, expected: u64) {
+fn cleared(t: &mut Tally, what: &str, vb: usize, mask: u8, expected: u64) {
     let mut za = [0xff; 1024];
     bench::clear(vb, mask, &mut za);
     t.number(what, figures::count_of(&za, 0), expected);
@@ -39,6 +39,6 @@ fn rows_0_and_5(t: &mut Tally) {
         (223, 0),
         (224, 0xff),
     ] {
-        t.byte(b"zero 21 vb 16, byte ", &za, i, expected);
+        t.byte("zero 21 vb 16, byte ", &za, i, expected);
     }
 }

@@ -1,8 +1,6 @@
 // Figures: each is printed with its name, compared with what was expected, and counted.
 use crate::bench::Case;
-
-// Where figures are printed.
-const STDOUT_FILENO: i32 = 1;
+use std::fmt;
 
 // How many figures there were, and how many were as expected.
 #[derive(Clone, Copy, Default)]
@@ -11,123 +9,84 @@ pub struct Tally {
     pub agreed: u64,
 }
 
-fn count(name: &[u8], n: u64) {
-    write(name);
-    io::print_decimal(STDOUT_FILENO, n);
-    write(b"\n");
-}
-
 impl Tally {
     pub(crate) fn report(self) {
-        count(b"figures: ", self.figures);
-        count(b"agreed: ", self.agreed);
+        checks::count("figures: ", self.figures);
+        checks::count("agreed: ", self.agreed);
     }
 
-    // The tile element of a case that starts at a byte of ZA.
-    pub(crate) fn element(&mut self, c: Case, what: &[u8], za: &[u8], byte: usize, expected: u64) {
-        write_case(c);
-        write(what);
-        write(b", byte ");
-        io::print_decimal(STDOUT_FILENO, byte as u64);
+    // The tile element of a case that starts at a byte of ZA. The parameters stand one by one: a call is a row of its figures.
+    pub(crate) fn element(&mut self, c: Case, what: &str, za: &[u8], byte: usize, expected: u64) {
         let size = if c.wide { 8 } else { 4 };
-        self.compared(element_at(za, byte, size), 2 * size, expected);
+        self.compared(
+            format_args!("{c}, {what}, byte {byte}"),
+            element_at(za, byte, size),
+            2 * size,
+            expected,
+        );
     }
 
     // How many bytes of ZA a case leaves so or so.
-    pub(crate) fn bytes(&mut self, c: Case, what: &[u8], value: u64, expected: u64) {
-        write_case(c);
-        self.number(what, value, expected);
+    pub(crate) fn bytes(&mut self, c: Case, what: &str, value: u64, expected: u64) {
+        self.number(format_args!("{c}, {what}"), value, expected);
     }
 
-    // A figure without a case.
-    pub(crate) fn number(&mut self, what: &[u8], value: u64, expected: u64) {
-        write(what);
-        self.compared(value, 2, expected);
+    // A figure under what is told of it, in two digits or more.
+    pub(crate) fn number(&mut self, what: impl fmt::Display + Drop, value: u64, expected: u64) {
+        self.compared(what, value, 2, expected);
     }
 
     // Byte i, under what is told of it with its place; 1 past the end.
-    pub(crate) fn byte(&mut self, what: &[u8], s: &[u8], i: usize, expected: u64) {
-        write(what);
-        io::print_decimal(STDOUT_FILENO, i as u64);
+    pub(crate) fn byte(&mut self, what: &str, s: &[u8], i: usize, expected: u64) {
         let value = match s.get(i) {
             Some(&byte) => u64::from(byte),
             None => 1,
         };
-        self.compared(value, 2, expected);
+        self.number(format_args!("{what}{i}"), value, expected);
     }
 
-    fn compared(&mut self, value: u64, digits: usize, expected: u64) {
-        write(b": ");
-        io::print_hex(STDOUT_FILENO, value, digits);
+    fn compared(
+        &mut self,
+        what: impl fmt::Display + Drop,
+        value: u64,
+        digits: usize,
+        expected: u64,
+    ) {
+        checks::print(format_args!("{what}: {value:0digits$x}"));
         let same = value == expected;
         if !same {
-            write(b" differs from ");
-            io::print_hex(STDOUT_FILENO, expected, digits);
+            checks::print(format_args!(" differs from {expected:0digits$x}"));
         }
-        write(b"\n");
+        checks::print("\n");
         self.figures = self.figures.wrapping_add(1);
         self.agreed = self.agreed.wrapping_add(u64::from(same));
     }
 }
 
-fn write(text: &[u8]) {
-    io::write_all(STDOUT_FILENO, text);
-}
-
-// A case's mnemonic, tile, vector length and registers.
-fn write_case(c: Case) {
-    write_signs(c.u0, c.u1);
-    write(b"mop");
-    if c.quarter {
-        write(b"4");
-    }
-    if c.subtract {
-        write(b"s za");
-    } else {
-        write(b"a za");
-    }
-    io::print_decimal(STDOUT_FILENO, c.tile as u64);
-    if c.wide {
-        write(b".d");
-    } else {
-        write(b".s");
-    }
-    if c.two_way {
-        write(b" 2-way");
-    }
-    write(b" vb ");
-    io::print_decimal(STDOUT_FILENO, c.vb as u64);
-    if c.quarter {
-        write_sources(c.first_pair, c.second_pair);
-    }
-    write(b", ");
-}
-
-// The registers of a quarter-tile case.
-fn write_sources(first_pair: bool, second_pair: bool) {
-    if first_pair {
-        write(b" z2-z3");
-    } else {
-        write(b" z2");
-    }
-    if second_pair {
-        write(b" z18-z19");
-    } else {
-        write(b" z18");
-    }
-}
-
-fn write_signs(u0: bool, u1: bool) {
-    if u0 {
-        write(b"u");
-        if !u1 {
-            write(b"s");
+// A case is shown by its mnemonic, tile and vector length, and the registers of a quarter-tile one.
+impl fmt::Display for Case {
+    fn fmt<W: fmt::Write>(&self, f: &mut fmt::Formatter<W>) -> fmt::Result {
+        let signs = match (self.u0, self.u1) {
+            (true, true) => "u",
+            (true, false) => "us",
+            (false, true) => "su",
+            (false, false) => "s",
+        };
+        let four = if self.quarter { "4" } else { "" };
+        let stroke = if self.subtract { "s" } else { "a" };
+        let suffix = if self.wide { "d" } else { "s" };
+        let ways = if self.two_way { " 2-way" } else { "" };
+        write!(
+            f,
+            "{signs}mop{four}{stroke} za{}.{suffix}{ways} vb {}",
+            self.tile, self.vb
+        )?;
+        if self.quarter {
+            let first = if self.first_pair { "z2-z3" } else { "z2" };
+            let second = if self.second_pair { "z18-z19" } else { "z18" };
+            write!(f, " {first} {second}")?;
         }
-    } else {
-        write(b"s");
-        if u1 {
-            write(b"u");
-        }
+        Ok(())
     }
 }
 

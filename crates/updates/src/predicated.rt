@@ -4,10 +4,10 @@ use crate::figures::Tally;
 use crate::{bench, figures, sources};
 
 pub(crate) fn all(t: &mut Tally) {
-    sources::signs32(t, bench::predicated(16, false, 0), 0);
-    sources::signs32(t, bench::predicated(32, false, 3), 96);
-    sources::signs64(t, bench::predicated(16, true, 0), 0);
-    sources::signs64(t, bench::predicated(32, true, 7), 224);
+    sources::all_signs(t, bench::predicated(16, false, 0), 0);
+    sources::all_signs(t, bench::predicated(32, false, 3), 96);
+    sources::all_signs(t, bench::predicated(16, true, 0), 0);
+    sources::all_signs(t, bench::predicated(32, true, 7), 224);
     ramps(t);
     activity32(t, bench::predicated(16, false, 0), 16 * 4);
     activity32(t, bench::predicated(32, false, 0), 32 * 4);
@@ -47,7 +47,8 @@ fn run_under(c: Case, pn: u16, pm: u16, za: &mut [u8]) {
     bench::run(c, &z, &p, za);
 }
 
-fn under(t: &mut Tally, c: Case, what: &[u8], pn: u16, pm: u16, byte: usize, expected: u64) {
+// The parameters of this and the other figures stand one by one: a call is a row of its figures, as the documents give them.
+fn under(t: &mut Tally, c: Case, what: &str, pn: u16, pm: u16, byte: usize, expected: u64) {
     let mut za = [0u8; 1024];
     run_under(c, pn, pm, &mut za);
     t.element(c, what, &za, byte, expected);
@@ -56,11 +57,11 @@ fn under(t: &mut Tally, c: Case, what: &[u8], pn: u16, pm: u16, byte: usize, exp
 // Pn 005A: of row 0 products 1 and 3 count, of row 1 products 0 and 2. Pm 00FC: of column 0 products 2 and 3, of column 1
 // all.
 fn activity32(t: &mut Tally, c: Case, row1: usize) {
-    under(t, c, b"pn 005a pm 00fc", 0x5a, 0xfc, 0, 0xf);
-    under(t, c, b"pn 005a pm 00fc", 0x5a, 0xfc, 4, 0x1e);
-    under(t, c, b"pn 005a pm 00fc", 0x5a, 0xfc, row1, 0xf);
+    under(t, c, "pn 005a pm 00fc", 0x5a, 0xfc, 0, 0xf);
+    under(t, c, "pn 005a pm 00fc", 0x5a, 0xfc, 4, 0x1e);
+    under(t, c, "pn 005a pm 00fc", 0x5a, 0xfc, row1, 0xf);
     let s = c.subtracted();
-    under(t, s, b"pn 005a pm 00ff", 0x5a, 0xff, row1, 0xffff_ffe2);
+    under(t, s, "pn 005a pm 00ff", 0x5a, 0xff, row1, 0xffff_ffe2);
 }
 
 // Of four products all count, three in row or column 0 under 0453, and one in row or column 1.
@@ -75,13 +76,13 @@ pub struct Sums(pub u64, pub u64, pub u64);
 // Bit 2·e governs element e: 5555 is all, AAAA none. Of 0453 bits 0, 4, 6 and 10 are elements 0, 2, 3 and 5, and bit 1 is
 // none.
 pub(crate) fn activity_of_halfwords(t: &mut Tally, c: Case, row1: usize, col1: usize, sums: Sums) {
-    under(t, c, b"pn 5555 pm ffff", 0x5555, 0xffff, 0, sums.0);
-    under(t, c, b"pn ffff pm 5555", 0xffff, 0x5555, 0, sums.0);
-    under(t, c, b"pn aaaa pm ffff", 0xaaaa, 0xffff, 0, 0);
-    under(t, c, b"pn ffff pm aaaa", 0xffff, 0xaaaa, 0, 0);
-    under(t, c, b"pn 0453 pm ffff", 0x0453, 0xffff, 0, sums.1);
-    under(t, c, b"pn 0453 pm ffff", 0x0453, 0xffff, row1, sums.2);
-    under(t, c, b"pn ffff pm 0453", 0xffff, 0x0453, col1, sums.2);
+    under(t, c, "pn 5555 pm ffff", 0x5555, 0xffff, 0, sums.0);
+    under(t, c, "pn ffff pm 5555", 0xffff, 0x5555, 0, sums.0);
+    under(t, c, "pn aaaa pm ffff", 0xaaaa, 0xffff, 0, 0);
+    under(t, c, "pn ffff pm aaaa", 0xffff, 0xaaaa, 0, 0);
+    under(t, c, "pn 0453 pm ffff", 0x0453, 0xffff, 0, sums.1);
+    under(t, c, "pn 0453 pm ffff", 0x0453, 0xffff, row1, sums.2);
+    under(t, c, "pn ffff pm 0453", 0xffff, 0x0453, col1, sums.2);
 }
 
 // One predicate empty: no byte of the 1,024 changes.
@@ -90,14 +91,14 @@ fn empty(t: &mut Tally, c: Case) {
     run_under(c, 0, 0xffff, &mut za);
     t.bytes(
         c,
-        b"pn 0000 pm ffff, bytes kept",
+        "pn 0000 pm ffff, bytes kept",
         figures::count_of(&za, 0x11),
         0x400,
     );
     run_under(c, 0xffff, 0, &mut za);
     t.bytes(
         c,
-        b"pn ffff pm 0000, bytes kept",
+        "pn ffff pm 0000, bytes kept",
         figures::count_of(&za, 0x11),
         0x400,
     );
@@ -118,18 +119,18 @@ fn one_more(c: Case, za: &mut [u8]) {
 pub(crate) fn wraps(t: &mut Tally, c: Case, size: usize, ones: u64) {
     let mut za = [0xff; 1024];
     one_more(c, &mut za);
-    t.element(c, b"ones plus 1", &za, 0, 0);
-    t.element(c, b"ones plus 1", &za, size, ones);
+    t.element(c, "ones plus 1", &za, 0, 0);
+    t.element(c, "ones plus 1", &za, size, ones);
     t.bytes(
         c,
-        b"ones plus 1, bytes cleared",
+        "ones plus 1, bytes cleared",
         figures::count_of(&za, 0),
         size as u64,
     );
     let s = c.subtracted();
     one_more(s, &mut za);
-    t.element(s, b"0 minus 1", &za, 0, ones);
-    t.bytes(s, b"0 minus 1, bytes cleared", figures::count_of(&za, 0), 0);
+    t.element(s, "0 minus 1", &za, 0, ones);
+    t.bytes(s, "0 minus 1, bytes cleared", figures::count_of(&za, 0), 0);
 }
 
 // ZA1.S at VB 16 has rows 1, 5, 9 and 13 of ZA, 64 bytes; the rows beside them stay.
@@ -141,14 +142,14 @@ fn rows(t: &mut Tally) {
 }
 
 fn row_ends(t: &mut Tally, c: Case, za: &[u8]) {
-    t.element(c, b"all ff", za, 12, 0);
-    t.element(c, b"all ff", za, 16, 0xffff_fc04);
-    t.element(c, b"all ff", za, 28, 0xffff_fc04);
-    t.element(c, b"all ff", za, 32, 0);
-    t.element(c, b"all ff", za, 208, 0xffff_fc04);
+    t.element(c, "all ff", za, 12, 0);
+    t.element(c, "all ff", za, 16, 0xffff_fc04);
+    t.element(c, "all ff", za, 28, 0xffff_fc04);
+    t.element(c, "all ff", za, 32, 0);
+    t.element(c, "all ff", za, 208, 0xffff_fc04);
     t.bytes(
         c,
-        b"all ff, bytes left 0",
+        "all ff, bytes left 0",
         figures::count_of(za, 0),
         1024 - 64,
     );
@@ -163,10 +164,10 @@ fn overlap(t: &mut Tally, vb: usize) {
     bench::set_row(&mut za, 4, 0, 0xff, 0xff);
     one_more(s, &mut za);
     one_more(d, &mut za);
-    t.element(d, b"after za0.s", &za, 0, 1);
+    t.element(d, "after za0.s", &za, 0, 1);
     bench::set_row(&mut za, 4, 0, 0xff, 0xff);
     bench::set_row(&mut za, 4, 1, 0, 0);
     one_more(d, &mut za);
     one_more(s, &mut za);
-    t.element(d, b"before za0.s", &za, 0, 0x1_0000_0001);
+    t.element(d, "before za0.s", &za, 0, 0x1_0000_0001);
 }

@@ -12,10 +12,10 @@ pub struct Corners(pub usize, pub usize, pub usize);
 pub struct Quarters(pub u64, pub u64, pub u64, pub u64);
 
 pub(crate) fn all(t: &mut Tally) {
-    sources::signs32(t, bench::quarter(16, false), 0);
-    sources::signs32(t, bench::quarter(32, false), 0);
-    sources::signs64(t, bench::quarter(16, true), 0);
-    sources::signs64(t, bench::quarter(32, true), 0);
+    sources::all_signs(t, bench::quarter(16, false), 0);
+    sources::all_signs(t, bench::quarter(32, false), 0);
+    sources::all_signs(t, bench::quarter(16, true), 0);
+    sources::all_signs(t, bench::quarter(32, true), 0);
     ramps(t);
     // Half of 4 rows and columns of 4 bytes, of 8, and of 2 and of 4 of 8 bytes
     pairs(t, bench::quarter(16, false), Corners(8, 128, 136));
@@ -86,10 +86,10 @@ pub(crate) fn register_forms(
 fn each_quarter(t: &mut Tally, c: Case, at: Corners, expected: Quarters) {
     let mut za = [0u8; 1024];
     run(c, &mut za);
-    t.element(c, b"1 or 2 by 3 or 5", &za, 0, expected.0);
-    t.element(c, b"1 or 2 by 3 or 5", &za, at.0, expected.1);
-    t.element(c, b"1 or 2 by 3 or 5", &za, at.1, expected.2);
-    t.element(c, b"1 or 2 by 3 or 5", &za, at.2, expected.3);
+    t.element(c, "1 or 2 by 3 or 5", &za, 0, expected.0);
+    t.element(c, "1 or 2 by 3 or 5", &za, at.0, expected.1);
+    t.element(c, "1 or 2 by 3 or 5", &za, at.1, expected.2);
+    t.element(c, "1 or 2 by 3 or 5", &za, at.2, expected.3);
 }
 
 // Where the quarters of ZA0.S meet at VB 16: (1, 1), (1, 2), (2, 1) and (2, 2), in rows 4 and 8 of ZA.
@@ -97,8 +97,8 @@ fn inner_corners(t: &mut Tally) {
     let mut za = [0u8; 1024];
     let c = bench::quarter(16, false).with_pairs(true, true);
     run(c, &mut za);
-    t.element(c, b"1 or 2 by 3 or 5", &za, 4 * 16 + 4, 0xc);
-    t.element(c, b"1 or 2 by 3 or 5", &za, 4 * 16 + 8, 0x18);
-    t.element(c, b"1 or 2 by 3 or 5", &za, 8 * 16 + 4, 0x14);
-    t.element(c, b"1 or 2 by 3 or 5", &za, 8 * 16 + 8, 0x28);
+    t.element(c, "1 or 2 by 3 or 5", &za, 4 * 16 + 4, 0xc);
+    t.element(c, "1 or 2 by 3 or 5", &za, 4 * 16 + 8, 0x18);
+    t.element(c, "1 or 2 by 3 or 5", &za, 8 * 16 + 4, 0x14);
+    t.element(c, "1 or 2 by 3 or 5", &za, 8 * 16 + 8, 0x28);
 }

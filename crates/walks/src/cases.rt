@@ -6,6 +6,7 @@ ghost use Rattle.walks.specs.Room.{Room, Drawn};
 use checks::{Fill, generate, next};
 use isa::{Predicate, Tile, Vector};
 use outer::{Operand, OuterProduct, Predication};
+use std::fmt;
 
 // Updates on vectors of vb bytes, with so many products to a tile element of `element` bytes, of the quarter-tile family or of
 // the predicated one.
@@ -24,25 +25,24 @@ pub const CASES: u32 = 2 * 4 * 4 * 3;
 // A case of register pairs and of full predicates.
 pub const TIMED_CASE: u32 = 24;
 
-pub(crate) fn write_kind(fd: i32, kind: Kind) {
-    let quarter = kind.quarter;
-    io::write_all(fd, b"VB ");
-    io::print_decimal(fd, kind.vb as u64);
-    if quarter {
-        io::write_all(fd, b", quarter-tile, ");
-    } else {
-        io::write_all(fd, b", predicated, ");
-    }
-    io::print_decimal(fd, kind.products as u64);
-    io::write_all(fd, b"-way, ");
-    if kind.element == 8 {
-        io::write_all(fd, b"64-bit");
-    } else {
-        io::write_all(fd, b"32-bit");
+impl fmt::Display for Kind {
+    fn fmt<W: fmt::Write>(&self, f: &mut fmt::Formatter<W>) -> fmt::Result {
+        let family = if self.quarter {
+            "quarter-tile"
+        } else {
+            "predicated"
+        };
+        let bits = if self.element == 8 { 64 } else { 32 };
+        write!(
+            f,
+            "VB {}, {family}, {}-way, {bits}-bit",
+            self.vb, self.products
+        )
     }
 }
 
 // Fills the buffers for a case from the stream that its number starts, ZA's three alike, and draws its outer product.
+// A struct over the lent buffers would be no plainer: each function would have to promise too that it keeps the references.
 pub(crate) fn draw(
     kind: Kind,
     n: u32,
@@ -156,25 +156,14 @@ fn source(x: u32, quarter: bool, pair: bool, unsigned: bool) -> Operand
     ensures { GoodOperand result }
 {
     let drawn = high_bits(x);
-    if !quarter {
-        let by = Predication::By(Predicate(drawn / 32 % 16));
-        return operand(drawn % 32, drawn % 32, by, unsigned);
-    }
-    if pair {
-        return operand(
-            drawn % 31,
-            drawn % 31 + 1,
-            Predication::Unpredicated,
-            unsigned,
-        );
-    }
-    operand(drawn % 32, drawn % 32, Predication::Unpredicated, unsigned)
-}
-
-fn operand(low: u32, high: u32, predication: Predication, unsigned: bool) -> Operand
-    requires { (low < 32) × (high < 32) × GoodPredication predication }
-    ensures { GoodOperand result }
-{
+    let two = quarter & pair;
+    let low = if two { drawn % 31 } else { drawn % 32 };
+    let high = if two { low + 1 } else { low };
+    let predication = if quarter {
+        Predication::Unpredicated
+    } else {
+        Predication::By(Predicate(drawn / 32 % 16))
+    };
     Operand {
         low: Vector(low),
         high: Vector(high),

@@ -11,15 +11,13 @@ mod tally;
 mod times;
 
 use cases::{CASES, Kind};
-use checks::STDOUT_FILENO;
 use outer::OuterProduct;
 use tally::Tally;
 
 fn main(rt: HostRuntime) {
     let short = tally_at(&rt, 16);
     let long = tally_at(&rt, 256);
-    io::write_all(STDOUT_FILENO, b"in all");
-    short.added(long).write();
+    checks::print(format_args!("in all: {}\n", short.added(long)));
 }
 
 // Both families.
@@ -73,8 +71,7 @@ fn tally_of(rt: &HostRuntime, kind: Kind) -> Tally
         &mut plain[..size],
         &mut start[..size],
     );
-    cases::write_kind(STDOUT_FILENO, kind);
-    t.write();
+    checks::print(format_args!("{kind}: {t}\n"));
     t
 }
 

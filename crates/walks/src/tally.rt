@@ -1,5 +1,6 @@
 // Counts of updates and of bytes.
-use checks::{STDOUT_FILENO, differing, part};
+use checks::differing;
+use std::fmt;
 
 // How many updates were compared, how many bytes of ZA they changed, and in how many the two walks differ.
 #[derive(Clone, Copy, Default)]
@@ -26,11 +27,14 @@ impl Tally {
             differing: self.differing.wrapping_add(other.differing),
         }
     }
+}
 
-    pub(crate) fn write(self) {
-        part(b": updates ", self.updates);
-        part(b", bytes changed ", self.changed);
-        part(b", bytes that differ ", self.differing);
-        io::write_all(STDOUT_FILENO, b"\n");
+impl fmt::Display for Tally {
+    fn fmt<W: fmt::Write>(&self, f: &mut fmt::Formatter<W>) -> fmt::Result {
+        write!(
+            f,
+            "updates {}, bytes changed {}, bytes that differ {}",
+            self.updates, self.changed, self.differing
+        )
     }
 }

@@ -4,8 +4,8 @@ ghost use Rattle.walks.specs.Room.{Updatable};
 
 use crate::cases;
 use crate::cases::Kind;
-use checks::STDERR_FILENO;
 use outer::OuterProduct;
+use std::fmt;
 use std::time::CpuClock;
 
 const ROUNDS: u32 = 40;
@@ -31,12 +31,11 @@ pub(crate) fn take_times(
     let updates = round_updates(vb);
     let time = best(rt, updates, || outer::update(vb, o, z, p, za));
     let plain_time = best(rt, updates, || outer::update_plainly(vb, o, z, p, plain));
-    cases::write_kind(STDERR_FILENO, kind);
-    io::write_all(STDERR_FILENO, b": update ");
-    write_time(time, updates);
-    io::write_all(STDERR_FILENO, b", update_plainly ");
-    write_time(plain_time, updates);
-    io::write_all(STDERR_FILENO, b"\n");
+    checks::eprint(format_args!(
+        "{kind}: update {}, update_plainly {}\n",
+        time_of_one(time, updates),
+        time_of_one(plain_time, updates)
+    ));
 }
 
 // Enough updates that the clock's step, a microsecond, is little beside a round.
@@ -46,16 +45,22 @@ fn round_updates(vb: usize) -> u64
     if vb < 256 { 20_000 } else { 200 }
 }
 
-// What one of so many updates takes, in nanoseconds with one decimal.
-fn write_time(microseconds: u64, updates: u64)
+// A time in tenths of a nanosecond; shown in nanoseconds.
+#[derive(Clone, Copy)]
+struct Tenths(u64);
+
+impl fmt::Display for Tenths {
+    fn fmt<W: fmt::Write>(&self, f: &mut fmt::Formatter<W>) -> fmt::Result {
+        write!(f, "{}.{} ns", self.0 / 10, self.0 % 10)
+    }
+}
+
+// What one of so many updates takes.
+fn time_of_one(microseconds: u64, updates: u64) -> Tenths
     requires { 0 < updates }
 {
     // Taken modulo 2^32, so that the product fits.
-    let tenths = microseconds % 0x1_0000_0000 * 10_000 / updates;
-    io::print_decimal(STDERR_FILENO, tenths / 10);
-    io::write_all(STDERR_FILENO, b".");
-    io::print_decimal(STDERR_FILENO, tenths % 10);
-    io::write_all(STDERR_FILENO, b" ns");
+    Tenths(microseconds % 0x1_0000_0000 * 10_000 / updates)
 }
 
 // The microseconds of the best round.

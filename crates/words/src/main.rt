@@ -27,14 +27,14 @@ fn main() {
     let mut list = checks::input_room();
     let n = io::read_full(STDIN_FILENO, &mut list);
     if n == checks::INPUT_ROOM {
-        io::write_all(STDOUT_FILENO, b"input too long\n");
+        checks::print("input too long\n");
         return;
     }
     report(compare(&list[..n]));
 }
 
 fn report(c: Compared) {
-    c.tally.report(b"lines: ");
+    c.tally.report("lines: ");
     c.sums.report();
 }
 
@@ -111,19 +111,19 @@ fn word_outcome(w: u32, listed: &[u8]) -> Outcome {
 // read as the word, and its features agree.
 fn text_agrees(w: u32, n: usize, room: &[u8], listed: &[u8]) -> bool {
     if !holds(room, n, listed) {
-        return disagrees(w, b"print ", checks::first(room, n), listed);
+        return disagrees(w, "print ", checks::first(room, n), listed);
     }
     if !exact_room_agrees(w, n, listed) {
-        return disagrees(w, b"not so in a room of its length: ", listed, listed);
+        return disagrees(w, "not so in a room of its length: ", listed, listed);
     }
     if !short_room_refused(w, n) {
-        return disagrees(w, b"not refused in a room a byte shorter: ", listed, listed);
+        return disagrees(w, "not refused in a room a byte shorter: ", listed, listed);
     }
     if !reads_as(listed, w) {
-        return disagrees(w, b"not read back: ", listed, listed);
+        return disagrees(w, "not read back: ", listed, listed);
     }
     if !features_agree(w) {
-        return disagrees(w, b"misses other features than it needs: ", listed, listed);
+        return disagrees(w, "misses other features than it needs: ", listed, listed);
     }
     true
 }
@@ -208,25 +208,21 @@ fn refusal_agrees(w: u32, refusal: Refusal, room: &[u8], listed: &[u8]) -> bool 
     if refusal == Refusal::Unlisted && marks_unlisted(listed) && untouched(room) {
         return true;
     }
-    io::print_hex(STDOUT_FILENO, w as u64, 8);
-    io::write_all(STDOUT_FILENO, b": refused ");
-    refusals::write_refusal(STDOUT_FILENO, refusal);
+    checks::print(format_args!("{w:08x}: refused {}", refusals::Told(refusal)));
     write_listed(listed);
     false
 }
 
 // A line that shows what print did with a word, and what is listed; the answer is always false.
-fn disagrees(w: u32, how: &[u8], text: &[u8], listed: &[u8]) -> bool {
-    io::print_hex(STDOUT_FILENO, w as u64, 8);
-    io::write_all(STDOUT_FILENO, b": ");
-    io::write_all(STDOUT_FILENO, how);
+fn disagrees(w: u32, how: &str, text: &[u8], listed: &[u8]) -> bool {
+    checks::print(format_args!("{w:08x}: {how}"));
     io::write_all(STDOUT_FILENO, text);
     write_listed(listed);
     false
 }
 
 fn write_listed(listed: &[u8]) {
-    io::write_all(STDOUT_FILENO, b"; list ");
+    checks::print("; list ");
     io::write_all(STDOUT_FILENO, listed);
-    io::write_all(STDOUT_FILENO, b"\n");
+    checks::print("\n");
 }

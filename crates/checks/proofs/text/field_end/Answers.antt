@@ -1,18 +1,16 @@
--- `checks::text::field_end` meets its contract: what is left of the field ends where the whole does. Assumes nothing.
-use Rattle.std.proofs.Common.{◌≡◌, ◌≤◌, length, drop, arith}
-use Rattle.checks.specs.Text.{field_length}
-use Rattle.checks.proofs.Texts.{field-ends, field_more, field-over}
+-- `checks::text::field_end` meets its contract: the field's end is the place that `position` finds. Assumes nothing.
+use Rattle.std.proofs.Common.{rules, tests, arith, ◌+◌, ◌-◌, ◌∙◌, ap, length, drop, nat_eq}
+use Rattle.std.proofs.lemmas.List.{take_all, drop_min, length-drop}
+use Rattle.std.proofs.lemmas.Iterator.{YieldsList-from_slice}
+use Rattle.std.proofs.lemmas.Iterator.Search.{position_from_yields_List}
+use Rattle.checks.proofs.Texts.{field_found}
 use Rattle.checks.proofs.text.field_end.Goals as goal
-
-pub returns-then-text-end-clause-answer : goal.returns-then-text-end-clause-answer
-returns-then-text-end-clause-answer c = omega (arith, field-ends c.args.text.now c.loop-end.end c.loop-end-test.true c.args.last c.if-text-end.true)
-
-pub loop-end-preserved : goal.loop-end-preserved
-loop-end-preserved c = omega (arith, field_more c.args.text.now c.loop-end.end c.loop-end-test.true c.args.last c.if-text-end.false)
 
 pub returns-clause-answer : goal.returns-clause-answer
 returns-clause-answer c =
-    let a = c.args in
-    let e = field-over a.last a.text.now c.loop-end.end (omega arith) in
-    let past : length a.text.now ≤ a.at → field_length a.last (drop a.at a.text.now) ≡ 0 = λ h. field-over a.last a.text.now a.at h in
-    grind (arith, c.max.ensures, past, e)
+    let found = position_from_yields_List (λ b. nat_eq b c.args.last) _ _ c.position.result c.position.ensures.ran (YieldsList-from_slice _ c.iter.ensures.rest) (λ x b q k. search (rules, tests)) in
+    let t = c.args.text.now in
+    let short = length-drop c.min.result t in
+    let whole = take_all (length t - c.min.result) (drop c.min.result t) (omega (arith, short)) in
+    let rest = whole ∙ ap (λ n. drop n t) c.min.ensures ∙ drop_min c.args.at t in
+    ap (λ n. c.args.at + n) (rw (c.unwrap_or.ensures, found, rest) (field_found c.args.last (drop c.args.at t)))

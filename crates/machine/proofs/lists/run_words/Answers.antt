@@ -1,5 +1,5 @@
 -- `machine::lists::run_words` meets its contract: what is left of the list ends as the whole does. Assumes nothing.
-use mathlib.Core.Path.{◌≡◌, ◌∙◌, sym, ap}
+use mathlib.Core.Path.{◌≡◌, ◌∙◌, sym, ap, refl}
 use mathlib.Core.Bool.{◌||◌}
 use mathlib.Core.List.{List, [], ◌∷◌}
 use mathlib.Core.Option.{none, some}
@@ -39,11 +39,11 @@ module _ (b : Bench) (z p za : List ℕ) (cleared w : ℕ) where
   refused e q = admit_refused b w last _ (sym q ∙ e)
 
 pub loop-i-init : goal.loop-i-init
-loop-i-init c = run_start _ _ _ (nothing_cleared _)
+loop-i-init c = (run_start _ _ _ (nothing_cleared _), refl)
 
 -- what tests 1 to 5 ask stays, so the bench still passes
 pub execute_next-requires : goal.execute_next-requires
-execute_next-requires c = same_tests c.loop-i.invariant.alike ∙ c.requires
+execute_next-requires c = same_tests c.loop-i.invariant.0.alike ∙ c.requires
 
 pub loop-i-preserved : goal.loop-i-preserved
 loop-i-preserved c =
@@ -52,15 +52,17 @@ loop-i-preserved c =
     let w = get_or a.words.now l.i 0 in
     let s = progress a.bench a.z.now a.p.now l.za l.cleared w in
     let x = c.execute_next.ensures in
-    let (f, d) = admitted a.bench a.z.now a.p.now l.za l.cleared w x.answer c.in-Ok.is in
-    run_turn _ _ s _ l.invariant c.loop-i-test.true _ f
-    (executed_next s.machine l.cleared w _ _ (as_single s w _ (same_tests l.invariant.alike ∙ c.requires) f x.za_after)
-    (λ r. c.also_cleared-cleared.ensures r ∙ ap (λ o. masked l.cleared r || in_mask (mask_of o) r) (sym d)))
+    let (f, d) = admitted a.bench a.z.now a.p.now l.za l.cleared w x.answer c.in-Ok.is in (
+      run_turn _ _ s _ l.invariant.0 c.loop-i-test.true _ f
+          (executed_next s.machine l.cleared w _ _ (as_single s w _ (same_tests l.invariant.0.alike ∙ c.requires) f x.za_after)
+          (λ r. c.also_cleared-cleared.ensures r ∙ ap (λ o. masked l.cleared r || in_mask (mask_of o) r) (sym d))),
+      l.invariant.1,
+    )
 
-pub returns : goal.returns
-returns c =
-    let n : length c.args.words.now ≡ c.loop-i.i = omega (arith, c.loop-i.invariant.within) in
-    rw n (run_end _ _ _ _ c.loop-i.invariant (omega arith))
+pub returns-after-loop-i : goal.returns-after-loop-i
+returns-after-loop-i c =
+    let n : length c.args.words.now ≡ c.loop-i.i = omega (arith, c.loop-i.invariant.0.within) in
+    rw (c.loop-i.invariant.1, n) (run_end _ _ _ _ c.loop-i.invariant.0 (omega arith))
 
 pub returns-in-Err : goal.returns-in-Err
 returns-in-Err c =
@@ -68,5 +70,5 @@ returns-in-Err c =
     let l = c.loop-i in
     let w = get_or a.words.now l.i 0 in
     let e = c.execute_next.ensures in
-    run_refused _ _ (progress a.bench a.z.now a.p.now l.za l.cleared w) _ l.invariant c.loop-i-test.true _ _
+    run_refused _ _ (progress a.bench a.z.now a.p.now l.za l.cleared w) _ l.invariant.0 c.loop-i-test.true _ _
     (refused a.bench a.z.now a.p.now l.za l.cleared w e.answer c.in-Err.is) e.za_after

@@ -4,35 +4,11 @@ use Rattle.outer.proofs.Shapes.{shape, element_in, spot_in}
 use Rattle.outer.proofs.Elements.{valued_off, valued_on, valued_back, valued_as, valued_at, first_off, second_off, counted}
 use Rattle.outer.proofs.task.Task.add_product.Goals as goal
 
-pub overflow_mul-first_byte : goal.overflow_mul-first_byte
-overflow_mul-first_byte c = omega (arith, element_in c.args.self.now c.source_bytes-b.ensures.is c.requires.row_bound.0 c.requires.row_bound.2)
-
-pub overflow_add-first_byte : goal.overflow_add-first_byte
-overflow_add-first_byte c = omega (arith, element_in c.args.self.now c.source_bytes-b.ensures.is c.requires.row_bound.0 c.requires.row_bound.2)
-
-pub overflow_mul-first_byte-2 : goal.overflow_mul-first_byte-2
-overflow_mul-first_byte-2 c = omega (arith, element_in c.args.self.now c.source_bytes-b.ensures.is c.requires.row_bound.0 c.requires.row_bound.2)
-
-pub overflow_mul-second_byte : goal.overflow_mul-second_byte
-overflow_mul-second_byte c = omega (arith, element_in c.args.self.now c.source_bytes-b.ensures.is c.requires.row_bound.1 c.requires.row_bound.2)
-
-pub overflow_add-second_byte : goal.overflow_add-second_byte
-overflow_add-second_byte c = omega (arith, element_in c.args.self.now c.source_bytes-b.ensures.is c.requires.row_bound.1 c.requires.row_bound.2)
-
-pub overflow_mul-second_byte-2 : goal.overflow_mul-second_byte-2
-overflow_mul-second_byte-2 c = omega (arith, element_in c.args.self.now c.source_bytes-b.ensures.is c.requires.row_bound.1 c.requires.row_bound.2)
-
-pub is_active-requires-clause-byte_bound : goal.is_active-requires-clause-byte_bound
-is_active-requires-clause-byte_bound c = omega (arith, element_in c.args.self.now c.source_bytes-b.ensures.is c.requires.row_bound.0 c.requires.row_bound.2)
-
 pub returns-then-not-is_active : goal.returns-then-not-is_active
 returns-then-not-is_active c =
     let t = c.args.self.now in
     first_off t.o.element t.o.products t.vb t.o t.z.now t.p.now c.args.row c.args.col c.args.k c.args.sum c.requires.sum_bound
     (valued_as c.source_bytes-b.ensures.is (valued_off _ _ _ _ _ _ _ c.is_active.ensures c.if-not-is_active.true))
-
-pub is_active-requires-2-clause-byte_bound : goal.is_active-requires-2-clause-byte_bound
-is_active-requires-2-clause-byte_bound c = omega (arith, element_in c.args.self.now c.source_bytes-b.ensures.is c.requires.row_bound.1 c.requires.row_bound.2)
 
 pub returns-then-not-is_active-2 : goal.returns-then-not-is_active-2
 returns-then-not-is_active-2 c =
