@@ -347,7 +347,7 @@ fn numbers_of(i: Instruction) -> [u32; FIELDS]
     }
 }
 
-// Those of an outer product: its kind, its operation, its tile and its sources.
+// Those of an outer product: its kind, its operation, its tile and its sources, one by one as C's arguments are.
 fn outer_numbers(
     kind: u32,
     op: Operation,

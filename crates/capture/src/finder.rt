@@ -64,7 +64,7 @@ fn capture_of(file: &[u8], parts: Parts) -> Option<Contents>
     }
     let bench = bench_at(file);
     let words = parts.words / 4;
-    // A match, and no .ok()?, which the proof would have to take apart again.
+    // A match is no longer than .ok() and a `?`, and has both cases that the promise speaks of.
     match machine::check_run(bench, parts.z, parts.p, parts.za, words) {
         Ok(()) => Some(Contents { bench, words }),
         Err(_) => None,

@@ -64,7 +64,7 @@ fn take_parts(
     take_bytes(file, 25 + 4 * n + 34 * vb, vb * vb, za);
 }
 
-// Whether n words and Z, P and ZA of VB bytes fit their buffers.
+// Whether n words and Z, P and ZA of VB bytes fit their buffers, whose lengths come one by one as the buffers do.
 fn long_enough(n: usize, vb: usize, words: usize, z: usize, p: usize, za: usize) -> bool
     requires { vb ≤ 256 }
     ensures { result ≡ long_enough n vb words z p za }

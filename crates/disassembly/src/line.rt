@@ -46,7 +46,8 @@ fn put_refusal(room: &mut [u8], at: usize, r: Refusal) -> usize
     put(room, at, &text)
 }
 
-// Eight hexadecimal digits and a space.
+// Eight hexadecimal digits and a space; by their places, as the shifts go by these. A digit is made by hand here: the promise is of
+// each byte, and a text made by format_args! would have to be copied to its place.
 #[tactic(auto, using(crate::proofs::Lines::digit_more), unfolding(crate::specs::Listing::hexadecimal))]
 fn field(v: u32) -> [u8; 9]
     ensures { result ≡ field_of v }

@@ -31,7 +31,7 @@ pub struct Operand {
 }
 
 // An outer product: the bytes of a tile element and how many products come to it, its tile and sources, and whether it
-// subtracts. The sizes are numbers, and no enum of three shapes: the laws are over any, and `Shaped` says which there are.
+// subtracts. The sizes are numbers, and no enum of three shapes: the laws (`element_add`) are over any, and `Shaped` says which there are.
 #[derive(Clone, Copy)]
 pub struct OuterProduct {
     pub element: usize,

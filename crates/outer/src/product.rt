@@ -58,8 +58,8 @@ pub(crate) fn add_signed(e: usize, sum: u64, q: i64) -> u64
     add(e, sum, q as u64)
 }
 
-// The element's size comes as a number to each of these, and no type stands for 4 or 8: the sizes of `OuterProduct` are numbers. Add
-// and take stand apart, as one function would have to ask at each product which of the two it is.
+// The element's size comes as a number to each of these: `add_to`, which `update`'s promise speaks of, takes any. One function for
+// add and take would be no plainer: it would be told at each call which of the two it is.
 fn add(e: usize, sum: u64, n: u64) -> u64
     requires four_or_eight { FourOrEight e }
     requires sum_bound { sum < 256 ^ e }

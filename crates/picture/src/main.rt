@@ -126,7 +126,7 @@ fn behind(place: usize) -> u8
     if place % 16 == 15 { b'\n' } else { b' ' }
 }
 
-// The digit of a unit, 100 or 10, or a space before the number.
+// The digit of a unit, 100 or 10, or a space before the number. By hand, as the promise is of each byte of the image.
 fn digit_from(v: usize, unit: usize) -> u8
     requires { 0 < unit }
     ensures { result ≡ digit unit v }

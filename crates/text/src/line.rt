@@ -233,7 +233,8 @@ impl Line {
         self.put(&[mark, letter]);
     }
 
-    // A number below 100, without leading zeros.
+    // A number below 100, without leading zeros. By hand: the promise is of each byte, and a text made by format_args! would have to be
+    // copied to its place.
     fn put_decimal(&mut self, n: u32)
         requires { (length self.old + 2 ≤ 48) × (n < 100) }
         ensures put { self.new ≡ self.old ++ decimal n }

@@ -104,7 +104,7 @@ fn word_outcome(w: u32, listed: &[u8]) -> Outcome {
     }
 }
 
-// Whether n bytes printed into room are what is listed, print keeps to rooms of n bytes and of one less, what is listed is
+// Whether n bytes printed into room (told apart, as the bytes behind them are compared too) are what is listed, print keeps to rooms of n bytes and of one less, what is listed is
 // read as the word, and its features agree.
 fn text_agrees(w: u32, n: usize, room: &[u8], listed: &[u8]) -> bool {
     if !holds(room, n, listed) {
