@@ -105,7 +105,10 @@ fn play_from_both(z: &[u8], p: &[u8]) {
 }
 
 fn write_differing(old: &[u8], zeros: &[u8]) {
-    checks::count(b"; bytes of ZA that differ: ", checks::differing(old, zeros));
+    checks::count(
+        b"; bytes of ZA that differ: ",
+        checks::differing(old, zeros),
+    );
 }
 
 fn old_sums() -> [u8; 256] {
