@@ -1,23 +1,17 @@
 -- Copies between buffers, byte by byte and word by word. Assumes nothing.
-use mathlib.Core.Path.{◌≡◌, refl, sym, ap, subst, ◌∙◌}
+use mathlib.Core.Path.{◌≡◌, sym, ap, subst, ◌∙◌}
 use mathlib.Core.List.{List, [], ◌∷◌, ◌++◌}
-use Prim.Native.Nat.{ℕ, zero, suc, ◌+◌, ◌*◌, ◌≤◌, ◌<◌}
+use Prim.Native.Nat.{ℕ, zero, suc, ◌+◌, ◌*◌, ◌<◌}
 use native.Mathlib.Nat.{add-zero}
 use native.Mathlib.Numerals.{add-one}
 use native.Mathlib.Omega.{arith}
-use borrow.Rule.Slice.PartMut.{put_mid}
-use Rattle.std.proofs.lemmas.Slice.{put_mid-paste}
 use lib.ListN.{length, take, set}
-use lib.Seq.{sets, sets-eq, take-suc, take-suc-set, take-length, length-take-le}
+use lib.Seq.{sets, take-suc, take-suc-set, length-take-le}
 use Rattle.storage.specs.Bytes.{at}
 use Rattle.storage.proofs.Bytes.{sets_append}
 use Rattle.capture.specs.Format.{big4, word_bytes}
 use Rattle.capture.specs.Steps.{number4, words_at}
 use Rattle.capture.proofs.Numbers.{length_word_bytes, word_bytes-++}
-
--- what a copy left in a part of a room, said of the whole
-pub put_there : (room : List ℕ) (i k : ℕ) (t part : List ℕ) → part ≡ t → k ≡ length t → i + length t ≤ length room → put_mid i k room part ≡ sets room i t
-put_there room i k t part p e h = put_mid-paste i k room part t (length t) p (sym e) refl ∙ rw (take-length t) (sym (sets-eq t room i h))
 
 pub stored_word : (room ws : List ℕ) (i k : ℕ) → k < length ws → sets (sets room i (word_bytes (take k ws))) (i + 4 * k) (big4 (at ws k)) ≡ sets room i (word_bytes (take (k + 1) ws))
 unfolding word_bytes

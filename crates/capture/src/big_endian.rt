@@ -19,7 +19,7 @@ pub(crate) fn load_u32(s: &[u8], i: usize) -> u32
     u32::from_be_bytes([s[i], s[i + 1], s[i + 2], s[i + 3]])
 }
 
-#[tactic(auto, using(crate::proofs::Copies::put_there))]
+#[tactic(auto, using(storage::proofs::Bytes::part_put))]
 pub(crate) fn store_u32(s: &mut [u8], i: usize, v: u32)
     requires { i + 4 ≤ length s.old }
     ensures { s.new ≡ sets s.old i (big4 v) }
@@ -28,7 +28,7 @@ pub(crate) fn store_u32(s: &mut [u8], i: usize, v: u32)
 }
 
 // All bytes of t to room, from i on.
-#[tactic(auto, using(crate::proofs::Copies::put_there))]
+#[tactic(auto, using(storage::proofs::Bytes::part_put))]
 pub(crate) fn put_bytes(room: &mut [u8], i: usize, t: &[u8])
     requires { i + length t.now ≤ length room.old }
     ensures { room.new ≡ sets room.old i t.now }

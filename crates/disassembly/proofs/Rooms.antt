@@ -28,10 +28,6 @@ part-set room i t h =
     ∙ sym (append_assoc (take i room) t (drop (i + length t) room))
     ∙ sym (sets-eq t room i h)
 
--- a text in the place of as many bytes
-pub put_there : (room : List ℕ) (i k : ℕ) (t part : List ℕ) → part ≡ t → k ≡ length t → i + length t ≤ length room → put_mid i k room part ≡ sets room i t
-put_there room i k t part p e h = rw (e, p) (part-set room i t h)
-
 -- a text at the start
 pub at_front : (room t : List ℕ) → length t ≤ length room → sets room 0 t ≡ t ++ drop (length t) room
 at_front room t h = sym (part-set room 0 t (omega arith))

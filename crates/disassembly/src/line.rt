@@ -70,7 +70,7 @@ fn hex_digit(d: u32) -> u8
 }
 
 // All bytes of text.
-#[tactic(auto, using(crate::proofs::Rooms::put_there))]
+#[tactic(auto, using(storage::proofs::Bytes::part_put))]
 pub(crate) fn put(room: &mut [u8], at: usize, text: &[u8]) -> usize
     requires { at + length text.now ≤ length room.old }
     ensures { Put room.old at room.new result text.now }
