@@ -10,6 +10,7 @@ ghost use Rattle.text.specs.Printing.{print_of, room_after, print_number, print_
 ghost use Rattle.text.specs.Put.{printed_in, filled_with};
 
 use isa::{Instruction, Refusal};
+use line::Line;
 
 // Puts the text of a word at the start of room, and answers its length. The bytes after it stay; refused, all of them do.
 pub fn print(flags: u32, word: u32, room: &mut [u8]) -> Result<usize, Refusal>
@@ -29,7 +30,8 @@ fn print_line(i: Instruction, room: &mut [u8]) -> Result<usize, Refusal>
     ensures answer { result ≡ printed_in i (length room.old) }
     ensures room_after { room.new ≡ filled_with i room.old }
 {
-    let line = line::spell(i);
+    let mut line = Line::new();
+    line.spell(i);
     let text = line.as_bytes();
     let n = text.len();
     if room.len() < n {

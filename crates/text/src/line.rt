@@ -31,22 +31,8 @@ impl Model for Line {
     ghost invariant = { λ l. l.len ≤ 48 };
 }
 
-// The line of an instruction.
-pub(crate) fn spell(i: Instruction) -> Line
-    requires { in_range i ≡ true }
-    ensures { result ≡ spelling i }
-{
-    let mut line = Line::new();
-    match i {
-        Instruction::Predicated(p) => line.put_predicated(p),
-        Instruction::Quarter(q) => line.put_quarter(q),
-        Instruction::Zero(mask) => line.put_zero(mask),
-    }
-    line
-}
-
 impl Line {
-    fn new() -> Line
+    pub(crate) fn new() -> Line
         ensures { result ≡ [] }
     {
         Line {
@@ -65,6 +51,18 @@ impl Line {
         ensures { result.now ≡ self.now }
     {
         &self.bytes[..self.len]
+    }
+
+    // The line of an instruction. It is spelt where it lies: answered as a value, it would be copied.
+    pub(crate) fn spell(&mut self, i: Instruction)
+        requires { (self.old ≡ []) × (in_range i ≡ true) }
+        ensures { self.new ≡ spelling i }
+    {
+        match i {
+            Instruction::Predicated(p) => self.put_predicated(p),
+            Instruction::Quarter(q) => self.put_quarter(q),
+            Instruction::Zero(mask) => self.put_zero(mask),
+        }
     }
 
     // Mnemonic, tile, two predicates and two vectors.
@@ -159,7 +157,10 @@ impl Line {
     {
         self.put_signs(op.u0, op.u1);
         self.put(stem);
-        self.put(if op.subtract { b"s" } else { b"a" });
+        if op.subtract {
+            return self.put(b"s");
+        }
+        self.put(b"a")
     }
 
     // u for an unsigned source and s for a signed one; two of a kind are written once.
@@ -168,13 +169,12 @@ impl Line {
         ensures put { self.new ≡ self.old ++ signs u0 u1 }
         ensures short { length self.new ≤ length self.old + 2 }
     {
-        let text: &[u8] = match (u0, u1) {
-            (true, true) => b"u",
-            (true, false) => b"us",
-            (false, true) => b"su",
-            (false, false) => b"s",
-        };
-        self.put(text);
+        match (u0, u1) {
+            (true, true) => self.put(b"u"),
+            (true, false) => self.put(b"us"),
+            (false, true) => self.put(b"su"),
+            (false, false) => self.put(b"s"),
+        }
     }
 
     // Both predicates, each behind a comma.
@@ -253,7 +253,9 @@ impl Line {
         ensures len { length self.new ≡ length self.old + length text.now }
     {
         let end = self.len + text.len();
-        self.bytes[self.len..end].copy_from_slice(text);
+        for (k, byte) in self.bytes[self.len..end].iter_mut().enumerate() {
+            *byte = text[k];
+        }
         self.len = end;
     }
 }
