@@ -323,7 +323,10 @@ fn hand_out(i: Instruction, fields: &mut [u32]) -> u64
         return refused(Refusal::Room);
     }
     let numbers = numbers_of(i);
-    fields[..FIELDS].copy_from_slice(&numbers);
+    // One by one: as one copy, they would wait to be stored before they are read.
+    for (k, field) in fields[..FIELDS].iter_mut().enumerate() {
+        *field = numbers[k];
+    }
     0
 }
 

@@ -27,13 +27,15 @@ pub(crate) fn store_u32(s: &mut [u8], i: usize, v: u32)
     s[i..i + 4].copy_from_slice(&v.to_be_bytes());
 }
 
-// All bytes of t to room, from i on.
+// All bytes of t to room, from i on. Byte by byte, here and below: copy_from_slice would have the archive for C ask for memmove.
 #[tactic(auto, using(storage::proofs::Bytes::part_put))]
 pub(crate) fn put_bytes(room: &mut [u8], i: usize, t: &[u8])
     requires { i + length t.now ≤ length room.old }
     ensures { room.new ≡ sets room.old i t.now }
 {
-    room[i..i + t.len()].copy_from_slice(t);
+    for (k, byte) in room[i..i + t.len()].iter_mut().enumerate() {
+        *byte = t[k];
+    }
 }
 
 // All words to room, from i on.
@@ -52,7 +54,9 @@ pub(crate) fn take_bytes(s: &[u8], i: usize, n: usize, room: &mut [u8])
     requires { (i + n ≤ length s.now) × (n ≤ length room.old) }
     ensures { room.new ≡ bytes_at s.now i n ++ drop n room.old }
 {
-    room[..n].copy_from_slice(&s[i..i + n]);
+    for (k, byte) in room[..n].iter_mut().enumerate() {
+        *byte = s[i + k];
+    }
 }
 
 // The n words of s from i on, to the start of room.
