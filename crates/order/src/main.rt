@@ -105,7 +105,8 @@ fn tell_why(why: Unjudged) {
 
 // The last line shows that the list was judged to its end, and that it was not empty.
 fn count_words(n: usize) {
-    if !checks::print(format_args!("words judged: {n}\n")) {
+    checks::print(format_args!("words judged: {n}"));
+    if !checks::print(format_args!("\n")) {
         checks::eprint(format_args!("standard output did not take all of this\n"));
     }
 }
@@ -179,8 +180,9 @@ fn name_if_fixed(i: usize, word: u32) -> bool
 }
 
 fn name_refused(i: usize, word: u32, r: Refusal) {
+    checks::print(format_args!("fixed: "));
     checks::print(format_args!(
-        "fixed: word {}, {word:08x}, refused {}\n",
+        "word {}, {word:08x}, refused {}\n",
         place(i),
         refusals::Told(r)
     ));

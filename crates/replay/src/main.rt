@@ -111,9 +111,9 @@ fn run_and_write(
 // The bench: flags with their features, modes, vector length. A space stands before each feature, where `refusals` has an "and".
 fn write_bench(bench: Bench) {
     checks::eprint(format_args!("flags {}", bench.flags));
-    for (flag, name) in [(1, "SME"), (2, "I16I64"), (4, "MOP4"), (8, "SME2")] {
+    for (flag, name) in [(1, " SME"), (2, " I16I64"), (4, " MOP4"), (8, " SME2")] {
         if bench.flags & flag != 0 {
-            checks::eprint(format_args!(" {name}"));
+            checks::eprint(format_args!("{name}"));
         }
     }
     checks::eprint(format_args!(
