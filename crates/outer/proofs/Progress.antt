@@ -147,6 +147,16 @@ module _ {E vb tile : ℕ} (t : Tiled E vb tile) {f : ℕ → ℕ → ℤ} where
       → Since E vb tile f a (row * (vb / E) + (col + 1)) za₀ (sets za i (bytes_of E v))
   since_store w h l q e = since_then w (omega arith) (store_one t f (since_good w) h l q e)
 
+  -- only what comes to the run's elements counts
+  pub since_cong : (g : ℕ → ℕ → ℤ) {a b : ℕ} {za₀ za : List ℕ} → Since E vb tile f a b za₀ za
+      → ((r c : ℕ) → c < vb / E → a ≤ r * (vb / E) + c → r * (vb / E) + c < b → f r c ≡ g r c) → AddedTo E vb tile g a b za₀ za
+  since_cong g {a} {b} w h = w.done ∙ same t w.before (λ r c k l. alike r c l (dec_lt (r * (vb / E) + c) a) (dec_lt (r * (vb / E) + c) b))
+    where
+      alike : (r c : ℕ) → c < vb / E → Dec (r * (vb / E) + c < a) → Dec (r * (vb / E) + c < b) → between (vb / E) a b f r c ≡ between (vb / E) a b g r c
+      alike r c l (yes i) j = rw (between_under (vb / E) a b f r c i, between_under (vb / E) a b g r c i)
+      alike r c l (no i) (yes j) = rw (between_in (vb / E) a b f r c (omega arith) j, between_in (vb / E) a b g r c (omega arith) j) (h r c l (omega arith) j)
+      alike r c l (no i) (no j) = rw (between-over (vb / E) a b f r c (omega arith), between-over (vb / E) a b g r c (omega arith))
+
   -- all rows are done
   pub since_all : {row : ℕ} {za₀ za : List ℕ} → Since E vb tile f 0 (row * (vb / E)) za₀ za → vb / E ≤ row → za ≡ add_to E vb tile f za₀
   since_all {row} w h =

@@ -68,6 +68,10 @@ of_neither bytes32 d t = (refl, refl)
 of_neither halves64 d t = absurd (d refl)
 of_neither halves32 d t = absurd (t refl)
 
+-- as many products, of source elements of so many bytes
+pub of_sizes : {E K : ℕ} (e k : ℕ) → (E ≡ e) × (K ≡ k) → (K ≡ k) × (e / k ≡ E / K)
+of_sizes e k (p, q) = (q, rw (p, q))
+
 pub tiled : {E K : ℕ} → Shaped E K → {vb tile : ℕ} → legal vb ≡ true → tile < E → Tiled E vb tile
 tiled sh {vb} {tile} l h = go (shape sh).element (legal-length vb l) h
   where

@@ -6,6 +6,7 @@ ghost use Rattle.storage.specs.Sizes.{za_size};
 ghost use Rattle.storage.specs.Modulo.{plus};
 ghost use Rattle.storage.specs.Tile.{add_to};
 ghost use Rattle.outer.specs.Products.{directed, directed_product, sums, Shaped, Ready};
+ghost use Rattle.outer.specs.Walks.{ByteOrHalf};
 
 use crate::OuterProduct;
 use crate::product::{add_signed, load, multiply, store};
@@ -20,32 +21,49 @@ pub fn update_plainly(vb: usize, o: OuterProduct, z: &[u8], p: &[u8], za: &mut [
     ensures { za.new ≡ add_to o.element vb o.tile.0 (sums vb o z.now p.now) za.old }
 {
     let task = Task { vb, o, z, p };
-    let e = o.element;
-    let tile = o.tile.0 as usize;
-    let dim = task.columns();
-    for row in 0..dim {
-        for col in 0..dim {
-            let i = (row * e + tile) * vb + col * e;
-            let mut sum = load(e, za, i);
-            for k in 0..o.products {
-                sum = task.add_product(sum, row, col, k);
-            }
-            store(e, za, i, sum);
-        }
+    if o.element == 8 {
+        return task.add_plainly::<4, 2>(za);
     }
+    if o.products == 2 {
+        return task.add_plainly::<2, 2>(za);
+    }
+    task.add_plainly::<4, 1>(za)
 }
 
 impl Task<'_> {
+    // Rows, columns and K products, of source elements of B bytes. These are constants here, so that each shape has its own loops.
+    #[inline(always)]
+    fn add_plainly<const K: usize, const B: usize>(&self, za: &mut [u8])
+        requires shape { (self.now.o.products ≡ K) × (B ≡ self.now.o.element / self.now.o.products) }
+        requires za_len { length za.old ≡ za_size self.now.vb }
+        ensures { let t = self.now in za.new ≡ add_to t.o.element t.vb t.o.tile.0 (sums t.vb t.o t.z.now t.p.now) za.old }
+    {
+        let e = self.o.element;
+        let tile = self.o.tile.0 as usize;
+        let dim = self.columns();
+        for row in 0..dim {
+            for col in 0..dim {
+                let i = (row * e + tile) * self.vb + col * e;
+                let mut sum = load(e, za, i);
+                for k in 0..K {
+                    sum = self.add_product::<B>(sum, row, col, k);
+                }
+                store(e, za, i, sum);
+            }
+        }
+    }
+
     // Product k of element (row, col), added to sum.
+    #[inline(always)]
     #[tactic(auto, using(crate::proofs::Shapes::element_in))]
-    fn add_product(&self, sum: u64, row: usize, col: usize, k: usize) -> u64
+    fn add_product<const B: usize>(&self, sum: u64, row: usize, col: usize, k: usize) -> u64
+        requires source_bytes { (B ≡ self.now.o.element / self.now.o.products) × ByteOrHalf B }
         requires row_bound { (row < self.now.vb / self.now.o.element) × (col < self.now.vb / self.now.o.element) × (k < self.now.o.products) }
         requires sum_bound { sum < 256 ^ self.now.o.element }
         ensures { let t = self.now in result ≡ plus t.o.element sum (directed_product t.o.element t.o.products t.vb t.o t.z.now t.p.now row col k) }
     {
-        let b = self.source_bytes();
-        let first_byte = (self.o.products * row + k) * b;
-        let second_byte = (self.o.products * col + k) * b;
+        let first_byte = (self.o.products * row + k) * B;
+        let second_byte = (self.o.products * col + k) * B;
         if !self.is_active(self.o.first, first_byte) {
             return sum;
         }
@@ -54,8 +72,8 @@ impl Task<'_> {
         }
         let n = self.register_at(self.o.first, col);
         let m = self.register_at(self.o.second, row);
-        let x = read(b, self.z, n * self.vb + first_byte, self.o.first.unsigned);
-        let y = read(b, self.z, m * self.vb + second_byte, self.o.second.unsigned);
+        let x = read(B, self.z, n * self.vb + first_byte, self.o.first.unsigned);
+        let y = read(B, self.z, m * self.vb + second_byte, self.o.second.unsigned);
         accumulate(self.o.element, self.o.products, sum, x, y, self.o.subtract)
     }
 }

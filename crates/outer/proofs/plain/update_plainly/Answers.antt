@@ -1,70 +1,12 @@
--- `outer::plain::update_plainly` meets its contract: after the rows and columns walked, ZA has their elements' products added.
--- Assumes nothing.
-use Rattle.std.proofs.Common.{◌≡◌, pos, refl, ◌∙◌, arith, rules}
-use Rattle.storage.specs.Tile.{start}
-use Rattle.outer.specs.Products.{directed_product, dot}
-use Rattle.outer.proofs.Progress.{since_as, lent, placed, since_good, since_size, since_none, since_then, since_store, since_all}
-use Rattle.outer.proofs.Progress.{plus_lt, sum-start, sum_turn}
-use Rattle.outer.proofs.Shapes.{shape, on_tile}
+-- `outer::plain::update_plainly` meets its contract: the shapes are told apart. Assumes nothing.
+use Rattle.outer.proofs.Shapes.{of_eight, of_two, of_neither, of_sizes}
 use Rattle.outer.proofs.plain.update_plainly.Goals as goal
 
-pub loop-row-init : goal.loop-row-init
-loop-row-init c =
-    let t = on_tile c.requires.shaped c.requires.ready in
-    since_as refl (omega arith) (since_none t 0 (lent t c.args.za.now c.requires.za_len (λ i. search rules)))
+pub add_plainly-requires-clause-shape : goal.add_plainly-requires-clause-shape
+add_plainly-requires-clause-shape c = of_sizes 8 4 (of_eight c.requires.shaped c.if-o-eq8.true)
 
-pub loop-col-init : goal.loop-col-init
-loop-col-init c =
-    let t = on_tile c.requires.shaped c.requires.ready in
-    since_as refl (omega arith) (since_none t _ (since_good t c.loop-row.invariant))
+pub add_plainly-requires-then-o-eq2-clause-shape : goal.add_plainly-requires-then-o-eq2-clause-shape
+add_plainly-requires-then-o-eq2-clause-shape c = of_sizes 4 2 (of_two c.requires.shaped c.if-o-eq2.true)
 
-pub overflow_add-i-in-loop-col : goal.overflow_add-i-in-loop-col
-overflow_add-i-in-loop-col c =
-    omega (arith, placed (on_tile c.requires.shaped c.requires.ready) (rw c.columns-dim.ensures at c.loop-row-test.true) (rw c.columns-dim.ensures at c.loop-col-test.true))
-
-pub load-sum-requires-clause-four_or_eight : goal.load-sum-requires-clause-four_or_eight
-load-sum-requires-clause-four_or_eight c = (shape c.requires.shaped).element
-
-pub load-sum-requires-clause-e_in_bounds : goal.load-sum-requires-clause-e_in_bounds
-load-sum-requires-clause-e_in_bounds c =
-    let t = on_tile c.requires.shaped c.requires.ready in
-    omega (arith, placed t (rw c.columns-dim.ensures at c.loop-row-test.true) (rw c.columns-dim.ensures at c.loop-col-test.true), since_size t c.loop-col.invariant)
-
-pub loop-k-init : goal.loop-k-init
-loop-k-init c = sum-start _ _ (λ k. pos 0) c.load-sum.ensures.1
-
-pub add_product-sum-requires-clause-sum_bound : goal.add_product-sum-requires-clause-sum_bound
-add_product-sum-requires-clause-sum_bound c = rw c.loop-k.invariant (plus_lt _ _ _)
-
-pub loop-k-preserved : goal.loop-k-preserved
-loop-k-preserved c =
-    let a = c.args in
-    let products = directed_product a.o.element a.o.products a.vb a.o a.z.now a.p.now c.loop-row.row c.loop-col.col in
-    sum_turn a.o.element _ c.loop-k.sum _ c.loop-k.k products c.loop-k.invariant c.add_product-sum.ensures
-
-pub store-requires-clause-four_or_eight : goal.store-requires-clause-four_or_eight
-store-requires-clause-four_or_eight c = (shape c.requires.shaped).element
-
-pub store-requires-clause-e_in_bounds : goal.store-requires-clause-e_in_bounds
-store-requires-clause-e_in_bounds c =
-    let t = on_tile c.requires.shaped c.requires.ready in (
-      omega (arith, placed t (rw c.columns-dim.ensures at c.loop-row-test.true) (rw c.columns-dim.ensures at c.loop-col-test.true), since_size t c.loop-col.invariant),
-      rw c.loop-k.invariant (plus_lt _ _ _),
-    )
-
-pub loop-col-preserved : goal.loop-col-preserved
-unfolding start dot
-loop-col-preserved c =
-    let l = c.loop-k in
-    let e : l.k ≡ c.args.o.products = omega arith in
-    rw c.store.ensures
-    (since_store (on_tile c.requires.shaped c.requires.ready) c.loop-col.invariant (rw c.columns-dim.ensures at c.loop-row-test.true) (rw c.columns-dim.ensures at c.loop-col-test.true) refl
-    (l.invariant ∙ rw (e, c.load-sum.ensures.0)))
-
-pub loop-row-preserved : goal.loop-row-preserved
-loop-row-preserved c =
-    let w = c.loop-col.invariant in
-    since_as refl (omega (arith, c.columns-dim.ensures)) (since_then (on_tile c.requires.shaped c.requires.ready) c.loop-row.invariant w.order w.done)
-
-pub returns : goal.returns
-returns c = since_all (on_tile c.requires.shaped c.requires.ready) c.loop-row.invariant (omega (arith, c.columns-dim.ensures))
+pub add_plainly-requires-2-clause-shape : goal.add_plainly-requires-2-clause-shape
+add_plainly-requires-2-clause-shape c = of_sizes 4 4 (of_neither c.requires.shaped c.if-o-eq8.false c.if-o-eq2.false)

@@ -5,34 +5,34 @@ use Rattle.outer.proofs.Elements.{valued_off, valued_on, valued_back, valued_as,
 use Rattle.outer.proofs.task.Task.add_product.Goals as goal
 
 pub returns-then-not-is_active : goal.returns-then-not-is_active
-returns-then-not-is_active c =
+returns-then-not-is_active _ c =
     let t = c.args.self.now in
     first_off t.o.element t.o.products t.vb t.o t.z.now t.p.now c.args.row c.args.col c.args.k c.args.sum c.requires.sum_bound
-    (valued_as c.source_bytes-b.ensures.is (valued_off _ _ _ _ _ _ _ c.is_active.ensures c.if-not-is_active.true))
+    (valued_as c.requires.source_bytes.0 (valued_off _ _ _ _ _ _ _ c.is_active.ensures c.if-not-is_active.true))
 
 pub returns-then-not-is_active-2 : goal.returns-then-not-is_active-2
-returns-then-not-is_active-2 c =
+returns-then-not-is_active-2 _ c =
     let t = c.args.self.now in
     second_off t.o.element t.o.products t.vb t.o t.z.now t.p.now c.args.row c.args.col c.args.k c.args.sum c.requires.sum_bound
-    (valued_as c.source_bytes-b.ensures.is (valued_off _ _ _ _ _ _ _ c.is_active-2.ensures c.if-not-is_active-2.true))
+    (valued_as c.requires.source_bytes.0 (valued_off _ _ _ _ _ _ _ c.is_active-2.ensures c.if-not-is_active-2.true))
 
 pub overflow_add-n : goal.overflow_add-n
-overflow_add-n c = omega (arith, spot_in c.args.self.now c.source_bytes-b.ensures.is c.register_at-n.ensures.bound (element_in c.args.self.now c.source_bytes-b.ensures.is c.requires.row_bound.0 c.requires.row_bound.2).0)
+overflow_add-n _ c = omega (arith, spot_in c.args.self.now c.requires.source_bytes.0 c.register_at-n.ensures.bound (element_in c.args.self.now c.requires.source_bytes.0 c.requires.row_bound.0 c.requires.row_bound.2).0)
 
 pub read-x-requires-clause-b_in_bounds : goal.read-x-requires-clause-b_in_bounds
-read-x-requires-clause-b_in_bounds c = omega (arith, spot_in c.args.self.now c.source_bytes-b.ensures.is c.register_at-n.ensures.bound (element_in c.args.self.now c.source_bytes-b.ensures.is c.requires.row_bound.0 c.requires.row_bound.2).0, c.args.self.now.ready.z_sized)
+read-x-requires-clause-b_in_bounds _ c = omega (arith, spot_in c.args.self.now c.requires.source_bytes.0 c.register_at-n.ensures.bound (element_in c.args.self.now c.requires.source_bytes.0 c.requires.row_bound.0 c.requires.row_bound.2).0, c.args.self.now.ready.z_sized)
 
 pub overflow_add-m : goal.overflow_add-m
-overflow_add-m c = omega (arith, spot_in c.args.self.now c.source_bytes-b.ensures.is c.register_at-m.ensures.bound (element_in c.args.self.now c.source_bytes-b.ensures.is c.requires.row_bound.1 c.requires.row_bound.2).0)
+overflow_add-m _ c = omega (arith, spot_in c.args.self.now c.requires.source_bytes.0 c.register_at-m.ensures.bound (element_in c.args.self.now c.requires.source_bytes.0 c.requires.row_bound.1 c.requires.row_bound.2).0)
 
 pub read-y-requires-clause-b_in_bounds : goal.read-y-requires-clause-b_in_bounds
-read-y-requires-clause-b_in_bounds c = omega (arith, spot_in c.args.self.now c.source_bytes-b.ensures.is c.register_at-m.ensures.bound (element_in c.args.self.now c.source_bytes-b.ensures.is c.requires.row_bound.1 c.requires.row_bound.2).0, c.args.self.now.ready.z_sized)
+read-y-requires-clause-b_in_bounds _ c = omega (arith, spot_in c.args.self.now c.requires.source_bytes.0 c.register_at-m.ensures.bound (element_in c.args.self.now c.requires.source_bytes.0 c.requires.row_bound.1 c.requires.row_bound.2).0, c.args.self.now.ready.z_sized)
 
 pub returns : goal.returns
-returns c =
+returns _ c =
     let t = c.args.self.now in
     let u = (shape t.shaped).source in
-    let b = c.source_bytes-b.ensures.is in
+    let b = c.requires.source_bytes.0 in
     counted t.o.element t.o.products t.vb t.o t.z.now t.p.now c.args.row c.args.col c.args.k c.args.sum _
     (valued_back u (valued_at c.register_at-n.ensures.is (valued_as b (valued_on _ _ _ _ _ _ _ c.is_active.ensures c.if-not-is_active.false c.read-x.ensures))))
     (valued_back u (valued_at c.register_at-m.ensures.is (valued_as b (valued_on _ _ _ _ _ _ _ c.is_active-2.ensures c.if-not-is_active-2.false c.read-y.ensures))))
