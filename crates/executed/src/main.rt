@@ -89,17 +89,18 @@ fn words_agree(vb: usize, seed: u32, fill: Fill, text: &[u8], checksum: u32) -> 
 }
 
 // Reads words of eight digits with a comma between, and answers how many, if none is malformed and all have room. There is no
-// heap, so that the words stand in a lent room, and are counted first.
+// heap, so that the words stand in a lent room.
 fn read_words(text: &[u8], room: &mut [u32]) -> Option<usize>
     ensures { IfSome result (λ n. n ≤ length room.new) }
 {
-    let n = text.split(|&byte| byte == b',').count();
-    let slots = room.get_mut(..n)?;
-    for (slot, word) in slots.iter_mut().zip(text.split(|&byte| byte == b',')) {
+    let mut n = 0;
+    for word in text.split(|&byte| byte == b',') {
+        let slot = room.get_mut(n)?;
         if word.len() != 8 {
             return None;
         }
         *slot = checks::hexadecimal_of(word)?;
+        n += 1;
     }
     Some(n)
 }
