@@ -3,7 +3,7 @@
 // they are. Every feature is on. What is read is listed and written at once. A read or a write that fails is told on standard error.
 #![tactic(auto)]
 
-ghost use Rattle.std.specs.Prelude.{◌≡◌, ◌++◌, ◌≤◌, length, drop};
+ghost use Rattle.std.specs.Prelude.{◌≡◌, ◌++◌, ◌-◌, ◌^◌, ◌≤◌, length, drop};
 ghost use Rattle.disassembly.specs.Pieces.{lines_for, end_for, end_room, listed_all};
 ghost use Rattle.disassembly.specs.Claims.{room_for};
 ghost use Rattle.lister.specs.Reads.{most_read};
@@ -18,8 +18,7 @@ const ROOM: usize = 1024 * disassembly::LONGEST_LINE;
 fn main(rt: HostRuntime) {
     let mut room = lines_room();
     let mut place = disassembly::start();
-    // A loop has to end, and nothing says that an input does. No input takes so many reads.
-    for _ in 0..u64::MAX {
+    for _ in 0..most_reads() {
         let Some(behind) = read_and_list(&rt, place, &mut room) else {
             return;
         };
@@ -32,6 +31,13 @@ fn lines_room() -> [u8; ROOM]
     ensures { room_for most_read ≡ length result }
 {
     [0; ROOM]
+}
+
+// A loop has to end, and nothing says that an input does. No input takes so many reads.
+fn most_reads() -> u64
+    ensures { result ≡ 2 ^ 64 - 1 }
+{
+    u64::MAX
 }
 
 // Reads once, and lists what came. The listing goes on from the place, or is over where there is none. A read that fails is no
