@@ -116,6 +116,18 @@ word_append (suc A) B m p =
     let r : suc p + A ≡ p + suc A = omega arith in
     q ∙ rw (word_append A B m (suc p), r, pow-suc 256 A) (omega arith)
 
+pub bytes_append : (A B v : ℕ) → bytes_of (A + B) v ≡ bytes_of A (v % 256 ^ A) ++ bytes_of B (v / 256 ^ A)
+unfolding bytes_of
+bytes_append zero B v = rw (zero-add B, div-one v)
+bytes_append (suc A) B v =
+    let x = v % 256 ^ suc A in
+    let e : x ≡ v % 256 + 256 * (v / 256 % 256 ^ A) = mod_suc A v in
+    let d : v / 256 ^ suc A ≡ v / 256 / 256 ^ A =
+    ap (λ (n : ℕ). v / n) (pow-suc 256 A ∙ mul_comm (256 ^ A) 256) ∙ sym (div-div-eq-div-mul v 256 (256 ^ A)) in
+    let h : x % 256 ≡ v % 256 = omega arith in
+    let t : x / 256 ≡ v / 256 % 256 ^ A = omega arith in
+    rw (suc-add A B, d, h, t, bytes_append A B (v / 256))
+
 pub sets_append : (xs ys l : List ℕ) (i : ℕ) → sets l i (xs ++ ys) ≡ sets (sets l i xs) (i + length xs) ys
 sets_append [] ys l i = rw (add-zero i)
 sets_append (x ∷ xs) ys l i = let e : i + suc (length xs) ≡ suc i + length xs = omega arith in rw e (sets_append xs ys (set l i x) (suc i))
