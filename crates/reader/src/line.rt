@@ -19,7 +19,8 @@ pub fn read(flags: u32, line: &[u8]) -> Result<u32, Refusal>
     let Ok(w) = isa::encode(guess::guess(line)) else {
         return Err(Refusal::NotText);
     };
-    if !has_text(w, line) {
+    let spelt = has_text(w, line);
+    if !spelt {
         return Err(Refusal::NotText);
     }
     isa::check(flags, w)?;

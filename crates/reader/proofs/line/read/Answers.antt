@@ -51,11 +51,11 @@ verdict_is : (flags : ℕ) (t : Text) {w : ℕ} {b : Bool} {o : Option Refusal} 
     → has_text w t ≡ b → decode_refusal flags w ≡ o → verdict w b o ≡ read_of flags t
 verdict_is flags t {w} l e p q = ap₂ (verdict w) (sym p) (sym q) ∙ guess_word _ _ _ l e
 
-pub returns-then-not-has_text : goal.returns-then-not-has_text
-returns-then-not-has_text c =
+pub returns-then-not-spelt : goal.returns-then-not-spelt
+returns-then-not-spelt c =
     let l = legal c.flags_legal.ensures c.if-not-flags_legal.false in
     let e = encoded _ c.guess.ensures c.encode.ensures.answer c.in-Ok.is in
-    answers _ _ (verdict_is _ _ l e (sym c.has_text.ensures ∙ c.if-not-has_text.true) refl)
+    answers _ _ (verdict_is _ _ l e (sym c.has_text-spelt.ensures ∙ c.if-not-spelt.true) refl)
 
 pub returns-in_err-check : goal.returns-in_err-check
 returns-in_err-check c =
@@ -63,10 +63,10 @@ returns-in_err-check c =
     let e = encoded _ c.guess.ensures c.encode.ensures.answer c.in-Ok.is in
     answers _ _
     (handed_on c.from_residual.ensures.1
-    ∙ verdict_is _ _ l e (sym c.has_text.ensures ∙ c.if-not-has_text.false) (sym c.in_err-check.ensures.refusal))
+    ∙ verdict_is _ _ l e (sym c.has_text-spelt.ensures ∙ c.if-not-spelt.false) (sym c.in_err-check.ensures.refusal))
 
 pub returns : goal.returns
 returns c =
     let l = legal c.flags_legal.ensures c.if-not-flags_legal.false in
     let e = encoded _ c.guess.ensures c.encode.ensures.answer c.in-Ok.is in
-    answers _ _ (verdict_is _ _ l e (sym c.has_text.ensures ∙ c.if-not-has_text.false) (sym c.in_ok-check.ensures.refusal))
+    answers _ _ (verdict_is _ _ l e (sym c.has_text-spelt.ensures ∙ c.if-not-spelt.false) (sym c.in_ok-check.ensures.refusal))
