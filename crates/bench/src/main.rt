@@ -364,7 +364,8 @@ fn texts_of(flags: u32, words: &[u32]) {
 
 // A word's text, or its refusal.
 fn text_of(flags: u32, word: u32) {
-    checks::print(format_args!("{word:08x}, flags {flags}: "));
+    io::print_hex(STDOUT_FILENO, u64::from(word), 8);
+    checks::print(format_args!(", flags {flags}: "));
     let mut room = [0u8; 47];
     match text::print(flags, word, &mut room) {
         Ok(n) => io::write_all(STDOUT_FILENO, checks::first(&room, n)),
@@ -375,7 +376,8 @@ fn text_of(flags: u32, word: u32) {
 
 // The tile of an outer product.
 fn tile_of(flags: u32, word: u32) {
-    checks::print(format_args!("{word:08x}, flags {flags}: "));
+    io::print_hex(STDOUT_FILENO, u64::from(word), 8);
+    checks::print(format_args!(", flags {flags}: "));
     match isa::decode(flags, word) {
         Ok(i) => checks::print(format_args!("tile {}\n", tile_number(i))),
         Err(r) => checks::print(format_args!("{}\n", Refused(r))),
@@ -406,7 +408,9 @@ fn example_on(name: &str, bench: Bench, z: &[u8], p: &[u8], za: &mut [u8], start
         checks::print(format_args!(" from {}", first_changed(za, start)));
     }
     let e = element32(za, 0);
-    checks::print(format_args!(", za0.s (0, 0) {e:08x} = {e}\n"));
+    checks::print(format_args!(", za0.s (0, 0) "));
+    io::print_hex(STDOUT_FILENO, u64::from(e), 8);
+    checks::print(format_args!(" = {e}\n"));
 }
 
 // Executes two words on a ZA whose ZA0.D (0, 0) is 00000000ffffffff; that element then.
@@ -419,13 +423,10 @@ fn in_turn(name: &str, z: &[u8], p: &[u8], one: u32, two: u32) {
 fn in_turn_on(name: &str, z: &[u8], p: &[u8], za: &mut [u8], one: u32, two: u32) {
     let first = machine::execute(on(), z, p, za, one);
     let second = machine::execute(on(), z, p, za, two);
-    checks::print(format_args!(
-        "{name}: {}, {}, {:08x}{:08x}\n",
-        Answer(first),
-        Answer(second),
-        element32(za, 4),
-        element32(za, 0)
-    ));
+    checks::print(format_args!("{name}: {}, {}, ", Answer(first), Answer(second)));
+    io::print_hex(STDOUT_FILENO, u64::from(element32(za, 4)), 8);
+    io::print_hex(STDOUT_FILENO, u64::from(element32(za, 0)), 8);
+    checks::print("\n");
 }
 
 // Runs a list from a ZA of zeros; its count, its answer and element (0, 0) of ZA0.S.

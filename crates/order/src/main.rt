@@ -181,11 +181,9 @@ fn name_if_fixed(i: usize, word: u32) -> bool
 
 fn name_refused(i: usize, word: u32, r: Refusal) {
     checks::print(format_args!("fixed: "));
-    checks::print(format_args!(
-        "word {}, {word:08x}, refused {}\n",
-        place(i),
-        refusals::Told(r)
-    ));
+    checks::print(format_args!("word {}, ", place(i)));
+    io::print_hex(STDOUT_FILENO, u64::from(word), 8);
+    checks::print(format_args!(", refused {}\n", refusals::Told(r)));
 }
 
 fn word_at(bytes: &[u8], i: usize) -> u32

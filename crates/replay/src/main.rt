@@ -137,7 +137,8 @@ fn write_end(words: &[u32], ended: Ended) {
     };
     let place = ended.count;
     if let Some(&word) = words.get(place) {
-        checks::eprint(format_args!("stopped at word {}, {word:08x}", place + 1));
+        checks::eprint(format_args!("stopped at word {}, ", place + 1));
+        io::print_hex(STDERR_FILENO, u64::from(word), 8);
         write_text(word);
         checks::eprint(format_args!("\n"));
     }

@@ -1,5 +1,6 @@
 // Figures: each is printed with its name, compared with what was expected, and counted.
 use crate::bench::Case;
+use checks::STDOUT_FILENO;
 use std::fmt;
 
 // How many figures there were, and how many were as expected.
@@ -49,10 +50,12 @@ impl Tally {
         digits: usize,
         expected: u64,
     ) {
-        checks::print(format_args!("{what}: {value:0digits$x}"));
+        checks::print(format_args!("{what}: "));
+        io::print_hex(STDOUT_FILENO, value, digits);
         let same = value == expected;
         if !same {
-            checks::print(format_args!(" differs from {expected:0digits$x}"));
+            checks::print(" differs from ");
+            io::print_hex(STDOUT_FILENO, expected, digits);
         }
         checks::print("\n");
         self.figures = self.figures.wrapping_add(1);

@@ -202,14 +202,16 @@ fn refusal_agrees(w: u32, refusal: Refusal, room: &[u8], listed: &[u8]) -> bool 
     if refusal == Refusal::Unlisted && marks_unlisted(listed) && untouched(room) {
         return true;
     }
-    checks::print(format_args!("{w:08x}: refused {}", refusals::Told(refusal)));
+    io::print_hex(STDOUT_FILENO, u64::from(w), 8);
+    checks::print(format_args!(": refused {}", refusals::Told(refusal)));
     write_listed(listed);
     false
 }
 
 // A line that shows what print did with a word, and what is listed; the answer is always false.
 fn disagrees(w: u32, how: &str, text: &[u8], listed: &[u8]) -> bool {
-    checks::print(format_args!("{w:08x}: {how}"));
+    io::print_hex(STDOUT_FILENO, u64::from(w), 8);
+    checks::print(format_args!(": {how}"));
     io::write_all(STDOUT_FILENO, text);
     write_listed(listed);
     false
